@@ -1,0 +1,3 @@
+pub mod AddsLemmas
+pub mod Appends
+pub mod Whole

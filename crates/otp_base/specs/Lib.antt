@@ -1,0 +1,4 @@
+pub mod Adds
+pub mod Faults
+pub mod Folder
+pub mod Sink

@@ -1,0 +1,32 @@
+//! What the program stands on: the outside as traits (a folder of files, a sink of bytes), each with
+//! forms in memory and on the machine, and the small types over `Vec` and `String` that contracts see
+//! as lists.
+//!
+//! A trait of the outside counts its faults. Each call that can fail answers so only where the count
+//! of its object rose, and an object may tell its contents, from which each other answer follows.
+#![tactic(auto)]
+
+mod adding;
+mod disk_folder;
+mod folder;
+mod list;
+mod memory;
+mod memory_folder;
+mod memory_sink;
+mod sink;
+mod std_sink;
+mod text;
+
+pub use adding::push_some;
+pub use disk_folder::DiskFolder;
+pub use folder::{FileEntry, FileFault, FileGot, Folder, read_file};
+pub use list::List;
+pub use memory::Memory;
+pub use memory_folder::{MemoryFolder, SteadyFolder};
+pub use memory_sink::{MemorySink, SteadySink};
+pub use sink::{Put, Sink, WriteFault, put_all};
+pub use std_sink::StdSink;
+pub use text::Text;
+
+#[cfg(test)]
+mod tests;
