@@ -1,0 +1,110 @@
+ghost use Rattle.std.specs.Prelude.{IsTrue, ◌↔◌};
+ghost use Rattle.otp_model.specs.Whole.{Dominates, IsInWindow, IsNoWorse};
+
+use crate::timetable::{Call, DayNo, StopNo, Time, TripNo};
+use otp_base::List;
+
+/// Where a journey begins or ends: a stop or station by its number, or a point of the plane.
+#[derive(Clone, Copy, Debug, PartialEq, Eq)]
+pub enum Place {
+    Stop(StopNo),
+    At { x: i64, y: i64 },
+}
+
+/// What is compared of two journeys. The fields stand in the order in which lists rise.
+#[derive(Clone, Copy, Debug, PartialEq, Eq, PartialOrd, Ord)]
+pub struct Value {
+    pub departure: Time,
+    pub arrival: Time,
+    pub rides: u32,
+    pub cost: u64,
+}
+
+/// A part of a journey: a walk of so many seconds, or a ride from one call of a run to a later one.
+#[derive(Clone, Copy, Debug, PartialEq, Eq)]
+pub enum Leg {
+    Walk {
+        seconds: u32,
+    },
+    Ride {
+        trip: TripNo,
+        day: DayNo,
+        board: Call,
+        alight: Call,
+    },
+}
+
+/// Walk, ride, walk and so on, ending in a walk.
+#[derive(Debug, Drop)]
+pub struct Journey {
+    pub legs: List<Leg>,
+}
+
+/// A journey with its value.
+#[derive(Debug, Drop)]
+pub struct Found {
+    pub value: Value,
+    pub journey: Journey,
+}
+
+/// Where a page ended: the number of commits that it was planned over, and its last value.
+#[derive(Clone, Copy, Debug, PartialEq, Eq)]
+pub struct Cursor {
+    pub commit: u64,
+    pub value: Value,
+}
+
+/// What is asked for: journeys that depart from `time` on for `window` seconds, with at most `rides`
+/// rides (1 to 8) and `slack` seconds to spare at each change. A second on foot costs `walk_points`
+/// (100 to 2,000) in place of 100, and each boarding costs `board_points` (up to 1,000,000).
+#[derive(Clone, Copy, Debug, PartialEq, Eq)]
+pub struct Request {
+    pub from: Place,
+    pub to: Place,
+    pub time: Time,
+    pub window: u32,
+    pub rides: u32,
+    pub slack: u32,
+    pub walk_points: u32,
+    pub board_points: u32,
+    pub page: u32,
+    pub cursor: Option<Cursor>,
+    pub at_least: u64,
+}
+
+/// A page of the best journeys, whether more follow, and the seconds of the direct walk if there is one.
+#[derive(Debug, Drop)]
+pub struct Page {
+    pub found: List<Found>,
+    pub more: bool,
+    pub direct: Option<u32>,
+}
+
+impl Request {
+    /// Whether the departure is in the window.
+    pub fn has_in_window(&self, value: &Value) -> bool
+        ensures { IsTrue result ↔ IsInWindow self.now value.now }
+    {
+        value.departure >= self.time
+            && i128::from(value.departure) < i128::from(self.time) + i128::from(self.window)
+    }
+}
+
+impl Value {
+    /// Whether it departs no earlier, arrives no later, has no more rides and costs no more.
+    pub fn is_no_worse(&self, other: &Value) -> bool
+        ensures { IsTrue result ↔ IsNoWorse self.now other.now }
+    {
+        self.departure >= other.departure
+            && self.arrival <= other.arrival
+            && self.rides <= other.rides
+            && self.cost <= other.cost
+    }
+
+    /// Whether it is no worse, and differs.
+    pub fn dominates(&self, other: &Value) -> bool
+        ensures { IsTrue result ↔ Dominates self.now other.now }
+    {
+        self.is_no_worse(other) && self != other
+    }
+}

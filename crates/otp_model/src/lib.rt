@@ -1,0 +1,15 @@
+//! The types of a timetable, of journeys and of messages, and in `specs/` what they mean: which
+//! journeys a schedule has, what each is worth, which of them are best and what a page of them is.
+#![tactic(auto)]
+
+mod journey;
+mod message;
+mod timetable;
+mod value;
+
+pub use journey::{Cursor, Found, Journey, Leg, Page, Place, Request, Value};
+pub use message::{Commit, Entity, Event, Message, StopUpdate, TripUpdate};
+pub use timetable::{
+    Call, DayNo, Edge, Edges, Point, Profile, Run, RunNo, Stop, StopNo, Time, Trip, TripNo,
+};
+pub use value::value_of;

@@ -1,0 +1,51 @@
+//! A GTFS Realtime message as far as trips are concerned (GTFS Realtime reference, FeedMessage).
+
+use otp_base::{List, Text};
+
+/// StopTimeEvent: seconds of delay, and an instant in seconds since 1970-01-01 00:00 UTC.
+#[derive(Clone, Copy, Debug, PartialEq, Eq)]
+pub struct Event {
+    pub delay: Option<i64>,
+    pub time: Option<i64>,
+}
+
+/// StopTimeUpdate. A relation that is not given is 0, SCHEDULED.
+#[derive(Debug, Drop)]
+pub struct StopUpdate {
+    pub seq: Option<u64>,
+    pub stop_id: Option<Text>,
+    pub relation: u64,
+    pub arrival: Option<Event>,
+    pub departure: Option<Event>,
+}
+
+/// TripUpdate with the fields of its TripDescriptor. A relation that is not given is 0, SCHEDULED.
+#[derive(Debug, Drop)]
+pub struct TripUpdate {
+    pub trip_id: Option<Text>,
+    pub start_date: Option<Text>,
+    pub start_time: Option<Text>,
+    pub route_id: Option<Text>,
+    pub relation: u64,
+    pub updates: List<StopUpdate>,
+}
+
+/// FeedEntity.
+#[derive(Debug, Drop)]
+pub struct Entity {
+    pub deleted: bool,
+    pub update: Option<TripUpdate>,
+}
+
+/// FeedMessage with the timestamp of its header.
+#[derive(Debug, Drop)]
+pub struct Message {
+    pub timestamp: Option<u64>,
+    pub entities: List<Entity>,
+}
+
+/// What one commit publishes: at most one message of each real-time feed, by rising number of the feed.
+#[derive(Debug, Drop)]
+pub struct Commit {
+    pub messages: List<(u32, Message)>,
+}
