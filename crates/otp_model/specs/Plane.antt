@@ -1,7 +1,7 @@
 -- Points on the plane, distances, and which stops are reached on foot from a place. Stations and their
 -- children are those of `stops.txt` in the GTFS Schedule reference; the plane and the seconds of a walk
 -- are this project's own.
-use Rattle.std.specs.Prelude.{◌≡◌, ◌≢◌, ◌⊎◌, ℕ, ◌+◌, ◌*◌, ◌≤◌, ◌-ℤ◌, unsigned_abs, List, Some, slice_get}
+use Rattle.std.specs.Prelude.{◌≡◌, ◌≢◌, ◌⊎◌, ℕ, ◌+◌, ◌*◌, ◌<◌, ◌≤◌, ◌-ℤ◌, unsigned_abs, List, Some, length, slice_get}
 use Rattle.std.specs.List.{Contains}
 use Rattle.std.specs.Int.{div_ceil}
 use Rattle.otp_model.specs.declared.timetable.Point.{Point}
@@ -69,5 +69,5 @@ pub record IsReached (edges : Edges) (place : Place) (stop seconds : ℕ) : Type
 
 -- a place that names a stop names one of the list
 abbrev pub IsPlaceOf : List Stop → Place → Type 0
-IsPlaceOf stops (AtStop n) = (stop : Stop) × (slice_get stops n ≡ Some stop)
+IsPlaceOf stops (AtStop n) = n < length stops
 IsPlaceOf stops (AtPoint x y) = Unit {0}

@@ -1,0 +1,65 @@
+ghost use Rattle.std.specs.Prelude.{◌≡◌, ◌*◌, ◌^◌, ◌<◌, ◌≤◌, MatchOption};
+ghost use Rattle.otp_model.specs.Plane.{square_apart, IsDistance};
+ghost use Rattle.otp_base.specs.Adds.{IsOnly};
+ghost use Rattle.walk_table.specs.Walks.{IsWalkTo, lesser, IsLeastWalk};
+
+use otp_model::{Point, Profile};
+
+/// The square of the distance of two points, if they are within reach.
+fn square_within(reach: u64, p: &Point, q: &Point) -> Option<u64>
+    requires { reach ≤ 5000000 }
+    ensures { MatchOption result (reach * reach < square_apart p.now q.now) (λ square. (square ≡ square_apart p.now q.now) × (square ≤ reach * reach)) }
+{
+    let dx = p.x.abs_diff(q.x);
+    let dy = p.y.abs_diff(q.y);
+    if dx > reach || dy > reach {
+        return None;
+    }
+    let square = dx * dx + dy * dy;
+    if square > reach * reach {
+        return None;
+    }
+    Some(square)
+}
+
+fn distance(square: u64) -> u64
+    requires { square ≤ 2 ^ 46 }
+    ensures { IsDistance square result }
+{
+    let root = square.isqrt();
+    if root * root < square { root + 1 } else { root }
+}
+
+/// The seconds of a walk between two points, if they are within reach.
+fn walk_between(profile: &Profile, p: &Point, q: &Point) -> Option<u32>
+    requires reach { profile.now.reach ≤ 5000000 }
+    requires speed { 0 < profile.now.speed }
+    ensures { IsOnly (IsWalkTo profile.now p.now q.now) result }
+{
+    let square = square_within(u64::from(profile.reach), p, q)?;
+    let seconds = distance(square).div_ceil(u64::from(profile.speed));
+    Some(seconds as u32)
+}
+
+fn lesser(a: Option<u32>, b: Option<u32>) -> Option<u32>
+    ensures { result ≡ lesser a b }
+{
+    match (a, b) {
+        (Some(a), Some(b)) => Some(a.min(b)),
+        (Some(a), None) => Some(a),
+        (None, b) => b,
+    }
+}
+
+/// The least seconds of a walk from one of the points.
+pub fn least_walk(profile: &Profile, points: &[Point], q: &Point) -> Option<u32>
+    requires reach { profile.now.reach ≤ 5000000 }
+    requires speed { 0 < profile.now.speed }
+    ensures { IsLeastWalk profile.now points.now q.now result }
+{
+    let mut least = None;
+    for p in points {
+        least = lesser(least, walk_between(profile, p, q));
+    }
+    least
+}
