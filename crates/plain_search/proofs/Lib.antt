@@ -1,0 +1,3 @@
+pub mod RideLemmas
+pub mod TailLemmas
+pub mod OfferLemmas

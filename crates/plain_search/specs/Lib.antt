@@ -1,0 +1,3 @@
+pub mod Rides
+pub mod Tails
+pub mod Offers
