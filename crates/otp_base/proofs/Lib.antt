@@ -1,3 +1,4 @@
 pub mod AddsLemmas
 pub mod Appends
+pub mod NumberLemmas
 pub mod Whole

@@ -1,4 +1,5 @@
 pub mod Adds
 pub mod Faults
 pub mod Folder
+pub mod Number
 pub mod Sink

@@ -7,6 +7,7 @@
 #![tactic(auto)]
 
 mod adding;
+mod digits;
 mod disk_folder;
 mod folder;
 mod list;
@@ -18,6 +19,7 @@ mod std_sink;
 mod text;
 
 pub use adding::push_some;
+pub use digits::{number, number_in};
 pub use disk_folder::DiskFolder;
 pub use folder::{FileEntry, FileFault, FileGot, Folder, read_file};
 pub use list::List;
