@@ -7,3 +7,8 @@ use Rattle.gtfs_tables.specs.declared.plain_row.PlainRow.{PlainRow}
 unfoldable pub block_length : List ℕ → List PlainRow → ℕ
 block_length trip [] = 0
 block_length trip (row ∷ rows) = if is_of trip row then block_length trip rows + 1 else 0
+
+-- how many rows at the front are of the first row's trip
+abbrev pub first_block_length : List PlainRow → ℕ
+first_block_length [] = 0
+first_block_length (row ∷ rows) = 1 + block_length row.trip rows

@@ -7,6 +7,7 @@ use Rattle.gtfs_tables.specs.Timetable.{plain_from}
 use Rattle.gtfs_tables.specs.declared.plain_file.Plain.{Plain}
 use Rattle.gtfs_tables.specs.declared.plain_file.PlainFault.{PlainFault}
 use Rattle.gtfs_tables.specs.declared.plain_file.PlainFault.TheVariants as fault
+use Rattle.gtfs_tables.specs.declared.plain_row.PlainRow.{PlainRow}
 
 -- the timetable of bytes of the plain form
 abbrev pub plain_of : List ℕ → Option Plain
@@ -18,6 +19,12 @@ plain_file None = None
 plain_file (Some bytes) = if nat_lt 1048576 (length bytes) then None else plain_of bytes
 
 -- what a function returned is what reading gives, unless a read or memory failed
+abbrev pub GivesRows : Result (List PlainRow) PlainFault → Option (List PlainRow) → Type 0
+GivesRows (Ok rows) read = read ≡ Some rows
+GivesRows (Err fault.Form) read = read ≡ None
+GivesRows (Err fault.Read) read = Unit {0}
+GivesRows (Err fault.Memory) read = Unit {0}
+
 abbrev pub GivesPlain : Result Plain PlainFault → Option Plain → Type 0
 GivesPlain (Ok plain) read = read ≡ Some plain
 GivesPlain (Err fault.Form) read = read ≡ None

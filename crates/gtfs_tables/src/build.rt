@@ -1,7 +1,7 @@
 ghost use Rattle.std.specs.Prelude.{◌≡◌, ◌+◌, ◌<◌, ◌≤◌, ◌^◌, IfOk, length, map, pos, true};
 ghost use Rattle.otp_model.specs.declared.timetable.Call.{Call};
 ghost use Rattle.gtfs_tables.specs.Form.{in_order};
-ghost use Rattle.gtfs_tables.specs.Blocks.{block_length};
+ghost use Rattle.gtfs_tables.specs.Blocks.{block_length, first_block_length};
 ghost use Rattle.gtfs_tables.specs.Timetable.{call_at, plain_from, runs_from, stop_at, stop_ids, stops_from, trip_ids, trip_of};
 
 use crate::names::Names;
@@ -12,13 +12,15 @@ use otp_model::{Call, Run, Stop, Trip};
 use std::alloc::Global;
 
 /// The ids of the stops, in the order of their first sight.
-#[tactic(auto, unfolding(crate::specs::Sights::first_sights))]
+#[tactic(auto, using(crate::proofs::SightFacts::starts_noting), unfolding(crate::proofs::SightFacts::noted_all))]
 fn stop_names<'a>(alloc: Global, rows: &'a [PlainRow]) -> Result<Names<'a>, Memory>
     ensures { IfOk result (λ names. names ≡ stop_ids rows.now) }
 {
     let mut names = Names::new(alloc);
-    for row in rows {
+    let mut left = rows;
+    while let [row, rest @ ..] = left {
         names.note(row.stop.as_str())?;
+        left = rest;
     }
     Ok(names)
 }
@@ -66,13 +68,24 @@ fn block_len(trip: &str, rows: &[PlainRow]) -> usize
     let mut count = 0;
     let mut left = rows;
     while let [row, rest @ ..] = left {
-        if row.trip.as_str() != trip {
+        if trip != row.trip.as_str() {
             return count;
         }
         count += 1;
         left = rest;
     }
     count
+}
+
+/// How many rows at the front are of the first row's trip.
+fn first_block_len(rows: &[PlainRow]) -> usize
+    ensures count { result ≡ first_block_length rows.now }
+    ensures within { result ≤ length rows.now }
+{
+    match rows {
+        [] => 0,
+        [row, rest @ ..] => 1 + block_len(row.trip.as_str(), rest),
+    }
 }
 
 /// The trips of rows that stand in order.
@@ -82,14 +95,15 @@ fn trips_of(alloc: Global, rows: &[PlainRow]) -> Result<List<Trip>, Memory>
 {
     let mut trips = List::new(alloc);
     let mut left = rows;
-    while let [row, rest @ ..] = left {
+    while let [row, ..] = left {
         let id = Text::from_str(alloc, row.trip.as_str())?;
         trips.push(Trip {
             id,
             route: 0,
             service: 0,
         })?;
-        left = &rest[block_len(row.trip.as_str(), rest)..];
+        let (_, later) = left.split_at(first_block_len(left));
+        left = later;
     }
     Ok(trips)
 }
@@ -115,8 +129,10 @@ fn calls(alloc: Global, stops: &Names, rows: &[PlainRow]) -> Result<List<Call>, 
     ensures { IfOk result (λ calls. calls ≡ map (call_at stops.now) rows.now) }
 {
     let mut calls = List::new(alloc);
-    for row in rows {
+    let mut left = rows;
+    while let [row, rest @ ..] = left {
         calls.push(call(stops, row))?;
+        left = rest;
     }
     Ok(calls)
 }
@@ -131,16 +147,16 @@ fn runs_of(alloc: Global, stops: &Names, rows: &[PlainRow]) -> Result<List<Run>,
     let mut runs = List::new(alloc);
     let mut trip = 0u32;
     let mut left = rows;
-    while let [row, rest @ ..] = left {
-        let count = 1 + block_len(row.trip.as_str(), rest);
-        let calls = calls(alloc, stops, &left[..count])?;
+    while !left.is_empty() {
+        let (block, later) = left.split_at(first_block_len(left));
+        let calls = calls(alloc, stops, block)?;
         runs.push(Run {
             trip,
             day: 0,
             calls,
         })?;
         trip += 1;
-        left = &left[count..];
+        left = later;
     }
     Ok(runs)
 }

@@ -45,7 +45,11 @@ pub fn are_ordered(alloc: Global, rows: &[PlainRow]) -> Result<bool, Memory>
     while at > 0 {
         at -= 1;
         let row = &rows[at];
-        if !is_timed(row) || !is_followed(row, &rows[at + 1..], &trips) {
+        let (_, later) = rows.split_at(at + 1);
+        if !is_timed(row) {
+            return Ok(false);
+        }
+        if !is_followed(row, later, &trips) {
             return Ok(false);
         }
         trips.note(row.trip.as_str())?;
