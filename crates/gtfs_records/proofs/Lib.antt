@@ -1,0 +1,5 @@
+pub mod DigitFacts
+pub mod HeaderFacts
+pub mod EachFacts
+pub mod RecordFacts
+pub mod CountFacts

@@ -1,0 +1,9 @@
+use Rattle.std.proofs.Common.{length, ◌≡◌}
+use Rattle.gtfs_records.specs.Fields.{trim_start}
+use Rattle.gtfs_records.proofs.fields.start_trimmed.Given as goal
+
+abbrev pub invariant-loop-left : goal.invariant-loop-left
+invariant-loop-left l = trim_start l.left ≡ trim_start l.bytes
+
+abbrev pub decreases-loop-left : goal.decreases-loop-left
+decreases-loop-left l = length l.left

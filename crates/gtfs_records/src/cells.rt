@@ -1,0 +1,129 @@
+ghost use Rattle.std.specs.Prelude.{◌≡◌, ◌≤◌, false, IfOk, Option, None, option_map};
+ghost use Rattle.std.specs.Str.{is_utf8};
+ghost use Rattle.gtfs_records.specs.Faults.{Gives};
+ghost use Rattle.gtfs_records.specs.Fields.{any_of, choice_of, clock_of, coordinate_of, count_of, count_or_none_of, filled_of, time_of};
+ghost use Rattle.gtfs_records.specs.Table.{accepted, cells, read_cell, text_at};
+
+use crate::fault::{Cause, Fault, TableError};
+use crate::fields;
+use crate::line::Line;
+use otp_base::Text;
+use std::alloc::Global;
+
+impl Line {
+    fn fault(&self, cause: Cause, column: usize) -> TableError
+        ensures { result ≡ TableError.Fault (record { cause = cause; row = self.now.row; column = column }) }
+    {
+        TableError::Fault(Fault {
+            cause,
+            row: self.row,
+            column,
+        })
+    }
+
+    /// The cell of a column as text.
+    fn text(&self, column: usize) -> Result<&str, TableError>
+        ensures { Gives (λ s. s.now) result (text_at self.now.row (cells self.now) column) }
+    {
+        match str::from_utf8(self.cell(column)) {
+            Ok(text) => Ok(text),
+            Err(_) => Err(self.fault(Cause::NotUtf8, column)),
+        }
+    }
+
+    /// Some text.
+    pub fn filled(&self, alloc: Global, column: usize) -> Result<Text, TableError>
+        ensures { Gives (λ x. x) result (read_cell filled_of self.now.row (cells self.now) column) }
+    {
+        let text = self.text(column)?;
+        if text.is_empty() {
+            return Err(self.fault(Cause::BadField, column));
+        }
+        Ok(Text::from_str(alloc, text)?)
+    }
+
+    /// Any text.
+    pub fn any(&self, alloc: Global, column: usize) -> Result<Text, TableError>
+        ensures { Gives (λ x. x) result (read_cell any_of self.now.row (cells self.now) column) }
+    {
+        let text = self.text(column)?;
+        Ok(Text::from_str(alloc, text)?)
+    }
+
+    /// A time of day, or none.
+    pub fn clock(&self, column: usize) -> Result<Option<u32>, TableError>
+        ensures { Gives (λ x. x) result (read_cell clock_of self.now.row (cells self.now) column) }
+    {
+        let text = self.text(column)?;
+        match fields::clock(text.as_bytes()) {
+            Some(time) => Ok(time),
+            None => Err(self.fault(Cause::BadField, column)),
+        }
+    }
+
+    /// A time of day that is there.
+    pub fn time(&self, column: usize) -> Result<u32, TableError>
+        ensures { Gives (λ x. x) result (read_cell time_of self.now.row (cells self.now) column) }
+    {
+        let text = self.text(column)?;
+        match fields::clock(text.as_bytes()) {
+            Some(Some(time)) => Ok(time),
+            _ => Err(self.fault(Cause::BadField, column)),
+        }
+    }
+
+    /// A number of 1 to 9 digits.
+    pub fn count(&self, column: usize) -> Result<u32, TableError>
+        ensures { Gives (λ x. x) result (read_cell count_of self.now.row (cells self.now) column) }
+    {
+        let text = self.text(column)?;
+        match fields::count(text.as_bytes()) {
+            Some(count) => Ok(count),
+            None => Err(self.fault(Cause::BadField, column)),
+        }
+    }
+
+    /// A number of 1 to 9 digits; empty is 0.
+    pub fn count_or_none(&self, column: usize) -> Result<u32, TableError>
+        ensures { Gives (λ x. x) result (read_cell count_or_none_of self.now.row (cells self.now) column) }
+    {
+        let text = self.text(column)?;
+        if text.is_empty() {
+            return Ok(0);
+        }
+        match fields::count(text.as_bytes()) {
+            Some(count) => Ok(count),
+            None => Err(self.fault(Cause::BadField, column)),
+        }
+    }
+
+    /// A digit up to `highest`; empty is 0.
+    pub fn choice(&self, highest: u8, column: usize) -> Result<u32, TableError>
+        requires { highest ≤ 9 }
+        ensures { Gives (λ x. x) result (read_cell (choice_of highest) self.now.row (cells self.now) column) }
+    {
+        let text = self.text(column)?;
+        match fields::choice(highest, text.as_bytes()) {
+            Some(choice) => Ok(choice),
+            None => Err(self.fault(Cause::BadField, column)),
+        }
+    }
+
+    /// A coordinate up to `limit` millionths either way, by the cell of the location type.
+    pub fn degrees(&self, limit: u32, location: usize, column: usize) -> Result<i64, TableError>
+        ensures { Gives (λ x. x) result (read_cell (coordinate_of limit (cells self.now location)) self.now.row (cells self.now) column) }
+    {
+        let text = self.text(column)?;
+        if text.is_empty() {
+            return match fields::choice(4, self.cell(location)) {
+                None => Err(self.fault(Cause::BadField, column)),
+                Some(0) => Err(self.fault(Cause::BadField, column)),
+                Some(_) => Ok(0),
+            };
+        }
+        match fields::degrees(limit, text.as_bytes()) {
+            Some(degrees) => Ok(degrees),
+            None => Err(self.fault(Cause::BadField, column)),
+        }
+    }
+}

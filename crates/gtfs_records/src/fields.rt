@@ -1,0 +1,230 @@
+ghost use Rattle.std.specs.Prelude.{◌≡◌, ◌+◌, ◌*◌, ◌^◌, ◌<◌, ◌≤◌, length, IfSome, IsTrue};
+ghost use Rattle.std.specs.List.{list_all};
+ghost use Rattle.gtfs_records.specs.Fields.{choice_of, clock_of, count_of, degrees_of, digit_count_of, digits_from, fraction_of, is_digit, minutes_of, millionths_of, six_of, sixty_of, trim_start, trim_end, trim_spaces};
+
+/// The bytes without spaces at their start.
+#[tactic(auto, unfolding(crate::specs::Fields::trim_start))]
+fn start_trimmed(bytes: &[u8]) -> &[u8]
+    ensures { result.now ≡ trim_start bytes.now }
+{
+    let mut left = bytes;
+    while let [b' ', rest @ ..] = left {
+        left = rest;
+    }
+    left
+}
+
+/// The bytes without spaces at their end.
+#[tactic(auto, unfolding(crate::specs::Fields::trim_start))]
+fn end_trimmed(bytes: &[u8]) -> &[u8]
+    ensures { result.now ≡ trim_end bytes.now }
+{
+    let mut left = bytes;
+    while let [rest @ .., b' '] = left {
+        left = rest;
+    }
+    left
+}
+
+/// The bytes without spaces at either end.
+pub fn trimmed(bytes: &[u8]) -> &[u8]
+    ensures { result.now ≡ trim_spaces bytes.now }
+{
+    end_trimmed(start_trimmed(bytes))
+}
+
+/// The number that the digits spell behind `front`.
+#[tactic(auto, using(crate::proofs::DigitFacts::room, crate::proofs::DigitFacts::fits), unfolding(crate::specs::Fields::digits_from))]
+fn digits(front: u32, bytes: &[u8]) -> Option<u32>
+    requires { (front + 1) * 10 ^ length bytes.now ≤ 10 ^ 9 }
+    ensures value { result ≡ digits_from front bytes.now }
+    ensures small { IfSome result (λ n. n < (front + 1) * 10 ^ length bytes.now) }
+{
+    match bytes {
+        [] => Some(front),
+        [digit, rest @ ..] => {
+            if *digit >= b'0' && *digit <= b'9' {
+                digits(10 * front + (*digit - b'0') as u32, rest)
+            } else {
+                None
+            }
+        }
+    }
+}
+
+/// A number of 1 to 9 digits.
+#[tactic(auto, unfolding(crate::specs::Fields::count_of))]
+pub fn count(bytes: &[u8]) -> Option<u32>
+    ensures { result ≡ count_of bytes.now }
+{
+    if bytes.is_empty() || bytes.len() > 9 {
+        None
+    } else {
+        digits(0, bytes)
+    }
+}
+
+/// One digit up to `highest`; empty is 0.
+#[tactic(auto, unfolding(crate::specs::Fields::choice_of))]
+pub fn choice(highest: u8, bytes: &[u8]) -> Option<u32>
+    requires { highest ≤ 9 }
+    ensures { result ≡ choice_of highest bytes.now }
+{
+    match bytes {
+        [] => Some(0),
+        [digit] => {
+            if *digit >= b'0' && *digit <= b'0' + highest {
+                Some((*digit - b'0') as u32)
+            } else {
+                None
+            }
+        }
+        [_, _, ..] => None,
+    }
+}
+
+fn sixty(tens: u8, ones: u8) -> Option<u32>
+    ensures value { result ≡ sixty_of tens ones }
+    ensures small { IfSome result (λ n. n < 60) }
+{
+    if tens >= b'0' && tens <= b'5' && ones >= b'0' && ones <= b'9' {
+        Some(10 * (tens - b'0') as u32 + (ones - b'0') as u32)
+    } else {
+        None
+    }
+}
+
+/// A colon, minutes, a colon and seconds, in seconds.
+#[tactic(auto, unfolding(crate::specs::Fields::minutes_of))]
+fn minutes(bytes: &[u8]) -> Option<u32>
+    ensures value { result ≡ minutes_of bytes.now }
+    ensures small { IfSome result (λ n. n < 3600) }
+{
+    match bytes {
+        [b':', a, b, b':', c, d] => {
+            let minutes = sixty(*a, *b)?;
+            let seconds = sixty(*c, *d)?;
+            Some(60 * minutes + seconds)
+        }
+        _ => None,
+    }
+}
+
+/// Hours, minutes and seconds, in seconds; empty is none.
+#[tactic(auto, unfolding(crate::specs::Fields::clock_of))]
+pub fn clock(bytes: &[u8]) -> Option<Option<u32>>
+    ensures { result ≡ clock_of bytes.now }
+{
+    if bytes.is_empty() {
+        return Some(None);
+    }
+    if bytes.len() < 7 || bytes.len() > 9 {
+        return None;
+    }
+    let (hours, rest) = bytes.split_at(bytes.len() - 6);
+    let hours = digits(0, hours)?;
+    let seconds = minutes(rest)?;
+    Some(Some(3600 * hours + seconds))
+}
+
+/// The first six digits, with zeros where there are fewer.
+fn six(digits: &[u8]) -> [u8; 6]
+    ensures { result ≡ six_of digits.now }
+{
+    let mut six = [b'0'; 6];
+    let count = digits.len().min(6);
+    six[..count].copy_from_slice(&digits[..count]);
+    six
+}
+
+fn are_digits(bytes: &[u8]) -> bool
+    ensures { result ≡ list_all is_digit bytes.now }
+{
+    bytes.iter().all(|b| *b >= b'0' && *b <= b'9')
+}
+
+/// A point and digits, or nothing, in millionths.
+#[tactic(auto, unfolding(crate::specs::Fields::fraction_of))]
+fn fraction(bytes: &[u8]) -> Option<u32>
+    ensures value { result ≡ fraction_of bytes.now }
+    ensures small { IfSome result (λ n. n < 1000000) }
+{
+    match bytes {
+        [] => Some(0),
+        [point, rest @ ..] => {
+            if *point == b'.' && rest.len() <= 20 && are_digits(rest) {
+                let six = six(rest);
+                digits(0, &six)
+            } else {
+                None
+            }
+        }
+    }
+}
+
+/// How many digits stand at the front.
+#[tactic(auto, unfolding(crate::specs::Fields::digit_count_of))]
+fn digit_count(bytes: &[u8]) -> usize
+    ensures count { result ≡ digit_count_of bytes.now }
+    ensures within { result ≤ length bytes.now }
+{
+    let mut count = 0;
+    let mut left = bytes;
+    while let [digit, rest @ ..] = left {
+        if *digit < b'0' || *digit > b'9' {
+            return count;
+        }
+        count += 1;
+        left = rest;
+    }
+    count
+}
+
+/// 1 to 3 digits and a fraction, in millionths.
+#[tactic(auto, unfolding(crate::specs::Fields::millionths_of))]
+fn millionths(bytes: &[u8]) -> Option<u32>
+    ensures value { result ≡ millionths_of bytes.now }
+{
+    let whole = digit_count(bytes);
+    if whole == 0 || whole > 3 {
+        return None;
+    }
+    let (front, rest) = bytes.split_at(whole);
+    let degrees = digits(0, front)?;
+    let fraction = fraction(rest)?;
+    Some(1_000_000 * degrees + fraction)
+}
+
+/// A signed number of degrees up to `limit` millionths either way.
+#[tactic(auto, unfolding(crate::specs::Fields::degrees_of))]
+pub fn degrees(limit: u32, bytes: &[u8]) -> Option<i64>
+    ensures { result ≡ degrees_of limit bytes.now }
+{
+    match bytes {
+        [] => None,
+        [b'-', rest @ ..] => {
+            let size = millionths(rest)?;
+            if size <= limit {
+                Some(0 - size as i64)
+            } else {
+                None
+            }
+        }
+        [b'+', rest @ ..] => {
+            let size = millionths(rest)?;
+            if size <= limit {
+                Some(size as i64)
+            } else {
+                None
+            }
+        }
+        _ => {
+            let size = millionths(bytes)?;
+            if size <= limit {
+                Some(size as i64)
+            } else {
+                None
+            }
+        }
+    }
+}
