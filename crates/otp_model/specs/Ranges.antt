@@ -1,6 +1,7 @@
 -- The ranges of what is searched.
 use Rattle.std.specs.Prelude.{◌^◌, ◌≤◌, ℤ, pos, neg_ℤ, ◌≤ℤ◌}
 use Rattle.std.specs.List.{All, AllPairs}
+use Rattle.otp_model.specs.declared.timetable.Call.{Call}
 use Rattle.otp_model.specs.declared.timetable.Run.{Run}
 use Rattle.otp_model.specs.declared.journey.Request.{Request}
 use Rattle.otp_model.specs.declared.journey.Leg.{Leg}
@@ -16,9 +17,12 @@ abbrev pub IsLegInRange : Leg → Type 0
 IsLegInRange (Walk seconds) = Unit {0}
 IsLegInRange (Ride trip day board alight) = IsTime board.departure × IsTime alight.arrival
 
+abbrev pub IsCallInRange : Call → Type 0
+IsCallInRange call = IsTime call.arrival × IsTime call.departure
+
 -- a run whose times are in range, and that arrives at no call before it left an earlier one
 pub record IsTimely (run : Run) : Type 0 where
-  pub in_range : All (λ call. IsTime call.arrival × IsTime call.departure) run.calls
+  pub in_range : All IsCallInRange run.calls
   pub forward : AllPairs (λ earlier later. earlier.departure ≤ℤ later.arrival) run.calls
 
 -- the numbers of a request are in range

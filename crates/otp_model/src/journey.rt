@@ -1,7 +1,9 @@
 ghost use Rattle.std.specs.Prelude.{IsTrue, ◌↔◌};
+ghost use Rattle.otp_model.specs.Plane.{IsPlaceOf};
+ghost use Rattle.otp_model.specs.Ranges.{IsRequestInRange};
 ghost use Rattle.otp_model.specs.Whole.{Dominates, IsInWindow, IsNoWorse};
 
-use crate::timetable::{Call, DayNo, StopNo, Time, TripNo};
+use crate::timetable::{Call, DayNo, Stop, StopNo, Time, TripNo};
 use otp_base::List;
 
 /// Where a journey begins or ends: a stop or station by its number, or a point of the plane.
@@ -80,7 +82,28 @@ pub struct Page {
     pub direct: Option<u32>,
 }
 
+impl Place {
+    /// Whether it is a point, or names one of the stops.
+    pub fn is_of(&self, stops: &[Stop]) -> bool
+        ensures { IsTrue result ↔ IsPlaceOf stops.now self.now }
+    {
+        match self {
+            Place::Stop(stop) => (*stop as usize) < stops.len(),
+            Place::At { .. } => true,
+        }
+    }
+}
+
 impl Request {
+    /// Whether its numbers of rides and of points are in their ranges.
+    pub fn is_in_range(&self) -> bool
+        ensures { IsTrue result ↔ IsRequestInRange self.now }
+    {
+        (1..=8).contains(&self.rides)
+            && (100..=2_000).contains(&self.walk_points)
+            && self.board_points <= 1_000_000
+    }
+
     /// Whether the departure is in the window.
     pub fn has_in_window(&self, value: &Value) -> bool
         ensures { IsTrue result ↔ IsInWindow self.now value.now }

@@ -1,5 +1,7 @@
-ghost use Rattle.std.specs.Prelude.{◌≡◌};
+ghost use Rattle.std.specs.Prelude.{◌≡◌, ◌≤ℤ◌, ◌↔◌, IsTrue};
+ghost use Rattle.std.specs.List.{All, AllPairs};
 ghost use Rattle.otp_model.specs.Plane.{point_of};
+ghost use Rattle.otp_model.specs.Ranges.{IsCallInRange, IsTime, IsTimely};
 
 use otp_base::{List, Text};
 
@@ -74,6 +76,52 @@ pub struct Run {
     pub trip: TripNo,
     pub day: DayNo,
     pub calls: List<Call>,
+}
+
+impl Run {
+    /// Whether its times are from -2^42 to 2^42, and it arrives at no call before it left an earlier one.
+    pub fn is_timely(&self) -> bool
+        ensures { IsTrue result ↔ IsTimely self.now }
+    {
+        are_in_range(self.calls.as_slice()) && are_forward(self.calls.as_slice())
+    }
+}
+
+fn are_in_range(calls: &[Call]) -> bool
+    ensures { IsTrue result ↔ All IsCallInRange calls.now }
+{
+    calls.iter().all(is_in_range)
+}
+
+fn is_in_range(call: &Call) -> bool
+    ensures { IsTrue result ↔ IsCallInRange call.now }
+{
+    is_time(call.arrival) && is_time(call.departure)
+}
+
+/// The greatest time, and less 0 the least one.
+const LATEST: Time = 1 << 42;
+
+fn is_time(time: Time) -> bool
+    ensures { IsTrue result ↔ IsTime time }
+{
+    -LATEST <= time && time <= LATEST
+}
+
+fn are_forward(calls: &[Call]) -> bool
+    ensures { IsTrue result ↔ AllPairs (λ earlier later. earlier.departure ≤ℤ later.arrival) calls.now }
+{
+    match calls {
+        [] => true,
+        [first, rest @ ..] => is_left_before(first, rest) && are_forward(rest),
+    }
+}
+
+/// Whether a call is left before each of the others is arrived at.
+fn is_left_before(call: &Call, others: &[Call]) -> bool
+    ensures { IsTrue result ↔ All (λ later. call.now.departure ≤ℤ later.arrival) others.now }
+{
+    others.iter().all(|later| call.departure <= later.arrival)
 }
 
 /// A walk from one stop to another: its seconds, and the least time that a change by it takes.
