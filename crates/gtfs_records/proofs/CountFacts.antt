@@ -1,5 +1,5 @@
 -- A table has no more rows than its file has bytes.
-use Rattle.std.proofs.Common.{◌≡◌, ℕ, zero, suc, ◌+◌, ◌≤◌, List, [], ◌∷◌, length, drop, Option, Some, None, Bool, true, false, cond, Result, Ok, Err, refl, sym, ap, arith, add-one}
+use Rattle.std.proofs.Common.{◌≡◌, ℕ, zero, suc, ◌+◌, ◌≤◌, List, [], ◌∷◌, length, drop, Option, Some, None, Bool, true, false, cond, Result, Ok, Err, refl, ap, arith}
 use Rattle.std.specs.Prelude.{IfOk}
 use Rattle.csv.specs.Machine.{Read, ends_at_end, next_record}
 use Rattle.csv.specs.Reading.{default_config, is_bom, records_from, records_next, strip_bom}
@@ -9,7 +9,6 @@ use Rattle.csv.specs.declared.parser.State.TheVariants as st
 use Rattle.gtfs_records.proofs.RecordFacts.{next_record-leaves}
 use Rattle.gtfs_records.specs.Faults.{◌>>=◌, Gives, each}
 use Rattle.gtfs_records.specs.Records.{Record, records_of}
-use Rattle.gtfs_records.specs.Table.{table_of}
 use Rattle.gtfs_records.specs.declared.fault.Fault.{Fault}
 use Rattle.gtfs_records.specs.declared.fault.TableError.{TableError}
 

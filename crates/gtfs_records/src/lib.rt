@@ -19,4 +19,3 @@ pub use fault::{Cause, Fault, TableError};
 pub use line::Line;
 pub use records::Records;
 pub use table::{TableRow, read_table};
-

@@ -1,16 +1,15 @@
 -- The rows of the first trip stand at the front, and the timetable of the rest goes on from there.
-use Rattle.std.proofs.Common.{◌≡◌, ℕ, zero, suc, ◌+◌, ◌≤◌, ◌<◌, List, [], ◌∷◌, ◌++◌, length, map, drop, take, Bool, true, false, cond, not, ◌||◌, ◌&&◌, refl, sym, ap, subst, ◌∙◌, arith, add-one, append_assoc, length-drop, get_or, pos, slice_get, Some}
+use Rattle.std.proofs.Common.{◌≡◌, ℕ, suc, ◌+◌, ◌≤◌, ◌<◌, List, [], ◌∷◌, ◌++◌, length, map, drop, take, Bool, true, false, cond, refl, sym, ap, subst, ◌∙◌, arith, add-one, append_assoc, length-drop, get_or, pos, slice_get, Some}
 use Rattle.std.proofs.Math.Seq.{drop-cons}
 use Rattle.std.proofs.lemmas.Option.{get_or_from_slice_get, slice_get_within}
-use Rattle.std.specs.Prelude.{nat_le, nat_lt}
-use Rattle.std.specs.List.{filter, list_any}
+use Rattle.std.specs.List.{filter}
 use Rattle.std.specs.Str.{bytes_eq}
 use Rattle.otp_model.specs.declared.timetable.Run.{Run}
 use Rattle.gtfs_tables.proofs.OrderFacts.{StartsInOrder, starts}
 use Rattle.gtfs_tables.proofs.SightFacts.{first_sights-without, has-first_sights}
 use Rattle.gtfs_tables.proofs.TestFacts.{same_bytes, bytes_eq-refl, bytes_eq-other_way, not-true, or-left, or-right, filter-none, list_any-map}
 use Rattle.gtfs_tables.specs.Blocks.{block_length, first_block_length}
-use Rattle.gtfs_tables.specs.Form.{goes_well, has_trip, in_order, is_of}
+use Rattle.gtfs_tables.specs.Form.{has_trip, in_order, is_of}
 use Rattle.gtfs_tables.specs.Sights.{first_sights, has_name, is_other}
 use Rattle.gtfs_tables.specs.Timetable.{call_at, run_at, runs_from, trip_ids}
 use Rattle.gtfs_tables.specs.declared.plain_row.PlainRow.{PlainRow}

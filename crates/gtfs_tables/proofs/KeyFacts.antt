@@ -1,7 +1,7 @@
 -- Names as the keys of a set.
-use Rattle.std.proofs.Common.{◌≡◌, ℕ, ◌+◌, ◌≤◌, ◌<◌, List, [], ◌∷◌, ◌++◌, length, map, Bool, true, false, cond, not, position, Option, None, Some, Bor, refl, sym, ap, ◌∙◌, inl, inr, arith, zero}
+use Rattle.std.proofs.Common.{◌≡◌, ℕ, ◌+◌, ◌≤◌, List, [], ◌∷◌, ◌++◌, length, Bool, true, false, cond, not, position, None, Some, Bor, refl, sym, ap, inl, inr, arith}
 use Rattle.std.specs.Prelude.{nat_lt}
-use Rattle.std.specs.List.{list_any, position_or_len, prefix_len}
+use Rattle.std.specs.List.{list_any, position_or_len}
 use Rattle.std.specs.Str.{bytes_eq}
 use Rattle.std.proofs.lemmas.Bool.{cases_lt, lt-ltb}
 use Rattle.gtfs_tables.proofs.TestFacts.{list_any-map}

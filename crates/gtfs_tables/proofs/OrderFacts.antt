@@ -1,14 +1,11 @@
 -- Rows in order.
-use Rattle.std.proofs.Common.{◌≡◌, ℕ, zero, suc, ◌≤◌, ◌<◌, List, [], ◌∷◌, ◌++◌, length, get_or, ◌+◌, drop, Bool, true, false, cond, not, ◌||◌, ◌&&◌, refl, sym, ap, ◌∙◌, arith, add-one, inl, inr}
-use Rattle.std.specs.List.{All}
+use Rattle.std.proofs.Common.{◌≡◌, ℕ, zero, suc, ◌<◌, List, [], ◌∷◌, ◌++◌, length, get_or, ◌+◌, drop, Bool, true, false, cond, ◌||◌, ◌&&◌, refl, ◌∙◌, add-one}
 use Rattle.std.proofs.Math.Seq.{drop-cons}
-use Rattle.std.proofs.lemmas.List.Elements.{All-cons}
-use Rattle.std.proofs.lemmas.Bool.{cases_Bool}
-use Rattle.std.specs.Prelude.{nat_le, nat_lt}
+use Rattle.std.specs.Prelude.{nat_le}
 use Rattle.std.specs.Str.{bytes_eq}
-use Rattle.gtfs_tables.proofs.TestFacts.{and-left, and-right, or-last, same_bytes}
-use Rattle.gtfs_tables.specs.Form.{goes_well, has_trip, in_order, is_of}
-use Rattle.gtfs_tables.specs.Order.{IsSmall, Sees}
+use Rattle.gtfs_tables.proofs.TestFacts.{and-left, and-right, same_bytes}
+use Rattle.gtfs_tables.specs.Form.{goes_well, has_trip, in_order}
+use Rattle.gtfs_tables.specs.Order.{Sees}
 use Rattle.gtfs_tables.specs.Sights.{has_name, noted}
 use Rattle.gtfs_tables.proofs.SightFacts.{has-append}
 use Rattle.gtfs_tables.specs.declared.plain_row.PlainRow.{PlainRow}

@@ -1,7 +1,7 @@
 -- What holds of the runs of rows in order: no call comes before an earlier one, and each stop has its number.
-use Rattle.std.proofs.Common.{◌≡◌, ℕ, zero, suc, ◌+◌, ◌≤◌, ◌<◌, ◌^◌, List, [], ◌∷◌, length, map, Bool, true, false, cond, get_or, refl, sym, ap, ◌∙◌, arith, pos, ◌≤ℤ◌, ◌&&◌, ◌||◌}
+use Rattle.std.proofs.Common.{◌≡◌, ℕ, zero, suc, ◌+◌, ◌≤◌, ◌<◌, ◌^◌, List, [], ◌∷◌, length, map, Bool, true, false, cond, get_or, refl, sym, ap, ◌∙◌, arith, pos, ◌≤ℤ◌}
 use Rattle.std.specs.Prelude.{nat_le, nat_lt}
-use Rattle.std.specs.List.{All, AllPairs, filter, list_any}
+use Rattle.std.specs.List.{All, AllPairs, filter}
 use Rattle.std.specs.Str.{bytes_eq}
 use Rattle.std.proofs.lemmas.Bool.{leb-true}
 use Rattle.std.proofs.lemmas.Int.{ints}
@@ -14,9 +14,9 @@ use Rattle.otp_model.specs.declared.timetable.Run.{Run}
 use Rattle.gtfs_tables.proofs.OrderFacts.{StartsInOrder, starts}
 use Rattle.gtfs_tables.proofs.SightFacts.{has-first_sights, first_sights-shorter, place-below}
 use Rattle.gtfs_tables.proofs.TestFacts.{same_bytes, bytes_eq-refl, and-right, filter-none, not-true, or-last}
-use Rattle.gtfs_tables.specs.Form.{goes_well, has_trip, in_order, is_of}
+use Rattle.gtfs_tables.specs.Form.{has_trip, in_order, is_of}
 use Rattle.gtfs_tables.specs.Order.{IsSmall}
-use Rattle.gtfs_tables.specs.Sights.{first_sights, has_name, place_of}
+use Rattle.gtfs_tables.specs.Sights.{has_name}
 use Rattle.gtfs_tables.specs.Timetable.{IsNumbered, call_at, plain_from, run_at, runs_from, stop_ids, stops_from, trip_ids, trip_of}
 use Rattle.gtfs_tables.specs.declared.plain_row.PlainRow.{PlainRow}
 
@@ -110,7 +110,7 @@ pub numbered : (rows : List PlainRow) → length rows < 2 ^ 32 → IsNumbered (p
 numbered rows few =
     let count = length-stops_from 0 (stop_ids rows) in
     let placed : All (λ (row : PlainRow). StopBelow (length (stops_from 0 (stop_ids rows))) (call_at (stop_ids rows) row)) rows =
-        λ k d h. rw count (place-below (stop_ids rows) (get_or rows k d).stop (has-first_sights (map (λ (row : PlainRow). row.stop) rows) (get_or rows k d).stop ∙ has-stop rows k d h)) in
+    λ k d h. rw count (place-below (stop_ids rows) (get_or rows k d).stop (has-first_sights (map (λ (row : PlainRow). row.stop) rows) (get_or rows k d).stop ∙ has-stop rows k d h)) in
     record {
       stops = omega (arith, few, count, first_sights-shorter (map (λ (row : PlainRow). row.stop) rows), length-map rows (λ (row : PlainRow). row.stop));
       trips = omega (arith, few, first_sights-shorter (map (λ (row : PlainRow). row.trip) rows), length-map rows (λ (row : PlainRow). row.trip), length-map (trip_ids rows) trip_of);

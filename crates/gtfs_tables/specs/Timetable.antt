@@ -1,8 +1,7 @@
 -- The timetable that rows of the plain form spell. Stops and trips are numbered in the order of first
 -- sight; the places of stops and the one day of service are this project's own.
-use Rattle.std.specs.Prelude.{◌≡◌, ℕ, ◌+◌, ◌<◌, ◌^◌, ℤ, pos, List, [], ◌∷◌, length, map, None, true}
+use Rattle.std.specs.Prelude.{ℕ, ◌+◌, ◌<◌, ◌^◌, pos, List, [], ◌∷◌, length, map, None, true}
 use Rattle.std.specs.List.{All, filter}
-use Rattle.otp_model.specs.Ranges.{IsTimely}
 use Rattle.otp_model.specs.declared.timetable.Call.{Call}
 use Rattle.otp_model.specs.declared.timetable.Run.{Run}
 use Rattle.otp_model.specs.declared.timetable.Stop.{Stop}

@@ -12,3 +12,6 @@ mod plain_row;
 mod shape;
 
 pub use plain_file::{Plain, PlainFault, read_plain};
+
+#[cfg(test)]
+mod tests;

@@ -107,11 +107,7 @@ fn path_of(alloc: Global, folder: &str) -> Result<String, Memory>
 ///
 /// `Form` exactly where no read failed and the file isn't there, has more than 1,048,576 bytes, or isn't
 /// of the form; `Read` where a read failed, and the folder counted it.
-pub fn read_plain<F: Folder>(
-    alloc: Global,
-    folder: &mut F,
-    path: &str,
-) -> Result<Plain, PlainFault>
+pub fn read_plain<F: Folder>(alloc: Global, folder: &mut F, path: &str) -> Result<Plain, PlainFault>
     ensures plain { ReadsPlain (F.files folder.old) (path.now ++ codes "/stop_times.txt") result }
     ensures unchanged { F.files folder.new ≡ F.files folder.old }
     ensures later { F.faults folder.old ≤ F.faults folder.new }

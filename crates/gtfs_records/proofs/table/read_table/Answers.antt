@@ -1,4 +1,3 @@
-use Rattle.std.proofs.Common.{◌≡◌}
 use Rattle.gtfs_records.proofs.CountFacts.{records_of-few, table-few}
 use Rattle.gtfs_records.specs.Table.{row_of}
 use Rattle.gtfs_records.proofs.table.read_table.Goals as goal
