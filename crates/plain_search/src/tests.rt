@@ -1,0 +1,390 @@
+ghost use Rattle.std.specs.Prelude.{◌↔◌, IsTrue};
+ghost use Rattle.std.specs.List.{All};
+ghost use Rattle.otp_model.specs.Ranges.{IsTimely};
+
+use crate::all_best;
+use otp_base::{List, Text};
+use otp_model::{Call, Edge, Edges, Found, Leg, Place, Profile, Request, Run, Stop, StopNo, Value};
+use std::alloc::Global;
+use std::process::Abort;
+use std::test::Fail;
+
+const A: StopNo = 0;
+
+const B: StopNo = 1;
+
+const C: StopNo = 2;
+
+const D: StopNo = 3;
+
+fn call(stop: StopNo, time: i64) -> Call {
+    Call {
+        stop,
+        seq: 0,
+        arrival: time,
+        departure: time,
+        board: true,
+        alight: true,
+    }
+}
+
+fn run(alloc: Global, trip: u32, calls: &[Call]) -> Result<Run, Fail> {
+    let calls = List::from_vec(Vec::from_slice(alloc, calls)?);
+    Ok(Run {
+        trip,
+        day: 0,
+        calls,
+    })
+}
+
+fn stop(alloc: Global, x: i64, y: i64, kind: u8, parent: Option<StopNo>) -> Result<Stop, Fail> {
+    Ok(Stop {
+        id: Text::from_str(alloc, "")?,
+        name: Text::from_str(alloc, "")?,
+        x,
+        y,
+        kind,
+        parent,
+    })
+}
+
+fn edge(to: StopNo, walk: u32, minimum: u32) -> Edge {
+    Edge { to, walk, minimum }
+}
+
+/// Four stops: A; B and, 555,975 mm beside it, C; and D. A fifth is a station with B and C as children.
+/// The change from B to C takes no less than `minimum`.
+fn edges(alloc: Global, minimum: u32) -> Result<Edges, Fail> {
+    let mut stops = List::new(alloc);
+    stops.push(stop(alloc, 0, 0, 0, None)?)?;
+    stops.push(stop(alloc, 0, 11_119_500, 0, Some(4))?)?;
+    stops.push(stop(alloc, 555_975, 11_119_500, 0, Some(4))?)?;
+    stops.push(stop(alloc, 0, 33_358_500, 0, None)?)?;
+    stops.push(stop(alloc, 0, 22_000_000, 1, None)?)?;
+    let mut from = List::new(alloc);
+    for row in [
+        [edge(A, 0, 0)].as_slice(),
+        [edge(B, 0, 0), edge(C, 419, minimum)].as_slice(),
+        [edge(B, 419, 0), edge(C, 0, 0)].as_slice(),
+        [edge(D, 0, 0)].as_slice(),
+        [].as_slice(),
+    ] {
+        from.push(List::from_vec(Vec::from_slice(alloc, row)?))?;
+    }
+    Ok(Edges {
+        stops,
+        from,
+        profile: Profile {
+            speed: 1_330,
+            reach: 1_000_000,
+            scale: 111_195,
+        },
+    })
+}
+
+/// Three trips: A 08:00, B 08:10, D 08:40; C 08:20, D 08:30; A 07:50, D 08:40.
+fn timetable(alloc: Global) -> Result<Vec<Run>, Fail> {
+    let mut runs = Vec::new(alloc);
+    runs.push(run(
+        alloc,
+        0,
+        &[call(A, 28_800), call(B, 29_400), call(D, 31_200)],
+    )?)?;
+    runs.push(run(alloc, 1, &[call(C, 30_000), call(D, 30_600)])?)?;
+    runs.push(run(alloc, 2, &[call(A, 28_200), call(D, 31_200)])?)?;
+    Ok(runs)
+}
+
+/// A request with the usual numbers for departures from 28,000 on within half an hour.
+fn between(from: Place, to: Place) -> Request {
+    Request {
+        from,
+        to,
+        time: 28_000,
+        window: 1_800,
+        rides: 4,
+        slack: 120,
+        walk_points: 200,
+        board_points: 60_000,
+        page: 20,
+        cursor: None,
+        at_least: 0,
+    }
+}
+
+fn a_to_d() -> Request {
+    between(Place::Stop(A), Place::Stop(D))
+}
+
+fn value(departure: i64, arrival: i64, rides: u32, cost: u64) -> Value {
+    Value {
+        departure,
+        arrival,
+        rides,
+        cost,
+    }
+}
+
+fn are_timely(runs: &[Run]) -> bool
+    ensures { IsTrue result ↔ All IsTimely runs.now }
+{
+    runs.iter().all(|run| run.is_timely())
+}
+
+fn search(
+    rt: &impl Abort,
+    alloc: Global,
+    runs: &[Run],
+    edges: &Edges,
+    request: &Request,
+) -> Result<Vec<Found>, Fail> {
+    assert!(rt; are_timely(runs));
+    assert!(rt; request.is_in_range());
+    assert!(rt; edges.profile.reach <= 5_000_000 && edges.profile.speed > 0);
+    let stops = edges.stops.as_slice();
+    assert!(rt; stops.len() < 100);
+    assert!(rt; request.from.is_of(stops));
+    assert!(rt; request.to.is_of(stops));
+    Ok(all_best(alloc, runs, edges, request)?)
+}
+
+/// Compares the values that a search finds.
+fn expect(
+    rt: &impl Abort,
+    alloc: Global,
+    case: &str,
+    runs: &[Run],
+    edges: &Edges,
+    request: &Request,
+    values: &[Value],
+) -> Result<(), Fail> {
+    let found = search(rt, alloc, runs, edges, request)?;
+    let found: Vec<Value> = found.iter().map(|found| found.value).collect(alloc)?;
+    assert_eq!(rt; found.as_slice(), values, "{case}");
+    Ok(())
+}
+
+#[test]
+fn finds_the_worked_values(rt: HostRuntime) -> Result<(), Fail> {
+    let alloc = rt.alloc();
+    let runs = timetable(alloc)?;
+    let walked = edges(alloc, 0)?;
+    let near_a = Place::At { x: 444_780, y: 0 };
+    let near_d = Place::At {
+        x: 0,
+        y: 33_491_500,
+    };
+    let both = [
+        value(28_800, 30_600, 2, 341_900),
+        value(28_800, 31_200, 1, 300_000),
+    ];
+    for (case, request, values) in [
+        (
+            "two rides, and a later direct one",
+            a_to_d(),
+            both.as_slice(),
+        ),
+        (
+            "one ride at most",
+            Request {
+                rides: 1,
+                ..a_to_d()
+            },
+            [value(28_800, 31_200, 1, 300_000)].as_slice(),
+        ),
+        (
+            "a window that ends before the first departure of another",
+            Request {
+                time: 28_200,
+                window: 600,
+                ..a_to_d()
+            },
+            [value(28_200, 31_200, 1, 360_000)].as_slice(),
+        ),
+        (
+            "from a coordinate, 335 seconds from A",
+            between(near_a, Place::Stop(D)),
+            [
+                value(28_465, 30_600, 2, 408_900),
+                value(28_465, 31_200, 1, 367_000),
+            ]
+            .as_slice(),
+        ),
+        (
+            "between coordinates, the second 100 seconds from D",
+            between(near_a, near_d),
+            [
+                value(28_465, 30_700, 2, 428_900),
+                value(28_465, 31_300, 1, 387_000),
+            ]
+            .as_slice(),
+        ),
+        (
+            "from B, on foot to C",
+            between(Place::Stop(B), Place::Stop(D)),
+            [value(29_581, 30_600, 1, 203_800)].as_slice(),
+        ),
+        (
+            "to the station of B and C",
+            between(Place::Stop(A), Place::Stop(4)),
+            [value(28_800, 29_400, 1, 120_000)].as_slice(),
+        ),
+        (
+            "a transfer just in time",
+            Request {
+                slack: 181,
+                ..a_to_d()
+            },
+            both.as_slice(),
+        ),
+        (
+            "a transfer missed by a second",
+            Request {
+                slack: 182,
+                ..a_to_d()
+            },
+            [value(28_800, 31_200, 1, 300_000)].as_slice(),
+        ),
+    ] {
+        expect(&rt, alloc, case, &runs, &walked, &request, values)?;
+    }
+    for (minimum, values) in [(600, both.as_slice()), (601, &both[1..])] {
+        let edges = edges(alloc, minimum)?;
+        expect(
+            &rt,
+            alloc,
+            "a least time for the change",
+            &runs,
+            &edges,
+            &a_to_d(),
+            values,
+        )?;
+    }
+    Ok(())
+}
+
+#[test]
+fn finds_the_values_of_other_timetables(rt: HostRuntime) -> Result<(), Fail> {
+    let alloc = rt.alloc();
+    let edges = edges(alloc, 0)?;
+    let mut twice = timetable(alloc)?;
+    twice.push(run(
+        alloc,
+        3,
+        &[call(A, 28_800), call(B, 29_400), call(D, 31_200)],
+    )?)?;
+    expect(
+        &rt,
+        alloc,
+        "equal values by different runs",
+        &twice,
+        &edges,
+        &a_to_d(),
+        &[
+            value(28_800, 30_600, 2, 341_900),
+            value(28_800, 31_200, 1, 300_000),
+        ],
+    )?;
+    let passed_b = Call {
+        board: false,
+        alight: false,
+        ..call(B, 29_400)
+    };
+    let mut barred = Vec::new(alloc);
+    barred.push(run(alloc, 0, &[call(A, 28_800), passed_b, call(D, 31_200)])?)?;
+    barred.push(run(alloc, 1, &[call(C, 30_000), call(D, 30_600)])?)?;
+    for (case, request, values) in [
+        (
+            "no alighting at B",
+            a_to_d(),
+            [value(28_800, 31_200, 1, 300_000)].as_slice(),
+        ),
+        (
+            "no boarding at B",
+            Request {
+                window: 1_500,
+                ..between(Place::Stop(B), Place::Stop(D))
+            },
+            [].as_slice(),
+        ),
+    ] {
+        expect(&rt, alloc, case, &barred, &edges, &request, values)?;
+    }
+    let mut late = Vec::new(alloc);
+    late.push(run(alloc, 0, &[call(A, 87_000), call(B, 87_600)])?)?;
+    expect(
+        &rt,
+        alloc,
+        "a trip behind midnight",
+        &late,
+        &edges,
+        &Request {
+            time: 86_400,
+            ..between(Place::Stop(A), Place::Stop(B))
+        },
+        &[value(87_000, 87_600, 1, 120_000)],
+    )?;
+    let mut cheaper = Vec::new(alloc);
+    cheaper.push(run(alloc, 0, &[call(A, 36_000), call(B, 36_800)])?)?;
+    cheaper.push(run(alloc, 1, &[call(A, 36_000), call(C, 37_638)])?)?;
+    cheaper.push(run(alloc, 2, &[call(C, 37_800), call(D, 38_400)])?)?;
+    expect(
+        &rt,
+        alloc,
+        "later at the change, and cheaper in the end",
+        &cheaper,
+        &edges,
+        &Request {
+            time: 36_000,
+            window: 60,
+            ..a_to_d()
+        },
+        &[value(36_000, 38_400, 2, 360_000)],
+    )?;
+    let mut ties = Vec::new(alloc);
+    ties.push(run(alloc, 0, &[call(A, 28_000), call(D, 29_000)])?)?;
+    ties.push(run(alloc, 1, &[call(A, 28_100), call(B, 28_400)])?)?;
+    ties.push(run(alloc, 2, &[call(B, 28_520), call(D, 29_000)])?)?;
+    ties.push(run(alloc, 3, &[call(A, 28_200), call(D, 29_200)])?)?;
+    expect(
+        &rt,
+        alloc,
+        "ties in arrival, in rides and in cost",
+        &ties,
+        &edges,
+        &a_to_d(),
+        &[
+            value(28_000, 29_000, 1, 160_000),
+            value(28_100, 29_000, 2, 210_000),
+            value(28_200, 29_200, 1, 160_000),
+        ],
+    )
+}
+
+#[test]
+fn tells_the_legs(rt: HostRuntime) -> Result<(), Fail> {
+    let alloc = rt.alloc();
+    let runs = timetable(alloc)?;
+    let edges = edges(alloc, 0)?;
+    let found = search(&rt, alloc, &runs, &edges, &a_to_d())?;
+    assert_eq!(rt; found.len(), 2);
+    let legs = [
+        Leg::Walk { seconds: 0 },
+        Leg::Ride {
+            trip: 0,
+            day: 0,
+            board: call(A, 28_800),
+            alight: call(B, 29_400),
+        },
+        Leg::Walk { seconds: 419 },
+        Leg::Ride {
+            trip: 1,
+            day: 0,
+            board: call(C, 30_000),
+            alight: call(D, 30_600),
+        },
+        Leg::Walk { seconds: 0 },
+    ];
+    assert_eq!(rt; found[0].journey.legs.as_slice(), legs.as_slice());
+    Ok(())
+}
