@@ -1,13 +1,13 @@
 -- Vectors as functions of the lane, at any number of lanes.
-use Rattle.std.proofs.Common.{◌≡◌, ℕ, zero, suc, ◌+◌, ◌*◌, ◌-◌, ◌%◌, ◌^◌, ◌<◌, ◌≤◌, ℤ, pos, negsuc, Bool, true, false, cond, ltb, ◌||◌, ◌&&◌, not, eqb, List, [], ◌∷◌, map, length, get_or, ap, ◌∙◌, sym, subst, ⊎_elim, refl, ◌⊎◌, inl, inr, arith, zero-add, w64, to_z, of_z, SFits}
-use lib.Lanes.{zip2, chunk, mask_l, top}
+use Rattle.std.proofs.Common.{◌≡◌, ℕ, zero, suc, ◌+◌, ◌*◌, ◌-◌, ◌%◌, ◌^◌, ◌<◌, ◌≤◌, ℤ, pos, Bool, true, false, cond, ltb, ◌||◌, ◌&&◌, not, eqb, List, map, ap, ◌∙◌, sym, subst, ⊎_elim, refl, ◌⊎◌, inl, inr, arith, zero-add, w64, to_z, of_z, SFits}
+use lib.Lanes.{zip2, mask_l, top}
 use lib.ListN.{replicate}
 use borrow.Author.Tests.{ltb-true, ltb-false, eqb-true, eqb-false}
 use lib.Signed.{lt_z, le_z}
 use Rattle.std.specs.Int.Bits.{bit_and, bit_or}
 use Rattle.std.specs.List.{range_with_len}
 use Rattle.std.specs.Bool.{MatchBool}
-use Rattle.std.proofs.lemmas.Simd.{zip2_of_maps, map-map, length-chunk, get_or-chunk, splat_is_map, mask_l-mod}
+use Rattle.std.proofs.lemmas.Simd.{zip2_of_maps, map-map, splat_is_map, mask_l-mod}
 use Rattle.std.proofs.lemmas.List.FromFn.{fill_by_all, length-range_with_len, length-map-range_with_len, get_or-map-range_with_len}
 use Rattle.std.proofs.lemmas.Int.{to_z-of_z}
 use Rattle.lane_kernels.specs.Lanes.{lanes, flag, marks, SomeWithin, NoneWithin}

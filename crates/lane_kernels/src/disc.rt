@@ -1,8 +1,7 @@
-ghost use Rattle.std.specs.Prelude.{◌≡◌, ◌+◌, ◌≤◌, ◌<◌, ◌&&◌, ℕ, Bool, false, length, slice_index_or, int_lt};
+ghost use Rattle.std.specs.Prelude.{◌≡◌, ◌+◌, ◌≤◌, ◌<◌, ℕ, IsTrue, false, length, slice_index_or};
 ghost use Rattle.std.specs.Bool.{MatchBool};
-ghost use Rattle.std.specs.Int.Signed.{le_z};
 ghost use Rattle.std.specs.List.{All};
-ghost use Rattle.lane_kernels.specs.Columns.{IsCoordinate, IsReach, IsEachMarked};
+ghost use Rattle.lane_kernels.specs.Columns.{IsCoordinate, IsReach, is_within, AreMarked, IsEachMarked};
 ghost use Rattle.lane_kernels.specs.Lanes.{is_between, marks, SomeWithin, NoneWithin};
 
 use crate::lanes::{GROUP, above, any, at_most, both, either, pair};
@@ -20,14 +19,38 @@ pub fn within(xs: &[i64], ys: &[i64], x: i64, y: i64, reach: i64, out: &mut [boo
 {
     let mut at = 0;
     while xs.len() - at >= GROUP {
-        if any_between(xs, at, x - reach - 1, x + reach) && any_between(ys, at, y - reach - 1, y + reach) {
-            plain::mark(xs, ys, x, y, reach, at, at + GROUP, out);
-        } else {
-            mark_none(out, at);
-        }
+        mark_group(xs, ys, x, y, reach, at, out);
         at += GROUP;
     }
     plain::mark(xs, ys, x, y, reach, at, xs.len(), out);
+}
+
+// Most groups are far away, and are told by lanes; the others are few, and their points are tested one at a time.
+fn mark_group(xs: &[i64], ys: &[i64], x: i64, y: i64, reach: i64, at: usize, out: &mut [bool])
+    requires lengths { (length xs.now ≡ length ys.now) × (length xs.now ≡ length out.old) × (at + 8 ≤ length xs.now) }
+    requires coordinates { All IsCoordinate xs.now × All IsCoordinate ys.now × IsCoordinate x × IsCoordinate y }
+    requires reachable { IsReach reach }
+    ensures marked { AreMarked xs.now ys.now x y reach at (at + 8) out.new }
+    ensures kept { (k : ℕ) → k < at → slice_index_or out.new k false ≡ slice_index_or out.old k false }
+{
+    if is_far(xs, ys, x, y, reach, at) {
+        mark_none(out, at);
+        return;
+    }
+    plain::mark(xs, ys, x, y, reach, at, at + GROUP, out);
+}
+
+// Whether the strips round x and y rule the whole group at `at` out. No answer of `false` says that a point is within reach.
+fn is_far(xs: &[i64], ys: &[i64], x: i64, y: i64, reach: i64, at: usize) -> bool
+    requires lengths { (length xs.now ≡ length ys.now) × (at + 8 ≤ length xs.now) }
+    requires coordinates { IsCoordinate x × IsCoordinate y }
+    requires reachable { IsReach reach }
+    ensures { IsTrue result → (k : ℕ) → at ≤ k → k < at + 8 → is_within xs.now ys.now x y reach k ≡ false }
+{
+    if any_between(xs, at, x - reach - 1, x + reach) {
+        return !any_between(ys, at, y - reach - 1, y + reach);
+    }
+    true
 }
 
 // Whether an entry of the group at `at` is above `low` and at most `high`.

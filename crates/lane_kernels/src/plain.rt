@@ -56,8 +56,12 @@ fn is_near(dx: i64, dy: i64, reach: i64) -> bool
     requires { IsReach reach }
     ensures { result ≡ is_in_reach dx dy reach }
 {
-    if dx < -reach || reach < dx || dy < -reach || reach < dy {
+    let (across, along, radius) = (dx.unsigned_abs(), dy.unsigned_abs(), reach.unsigned_abs());
+    if radius < across {
         return false;
     }
-    dx * dx + dy * dy <= reach * reach
+    if radius < along {
+        return false;
+    }
+    across * across + along * along <= radius * radius
 }

@@ -1,4 +1,4 @@
-use Rattle.std.proofs.Common.{ℤ, List, length, take, drop, ◌-◌, subst, w64, to_z, of_z}
+use Rattle.std.proofs.Common.{length, take, drop, ◌-◌, subst, w64, to_z, of_z}
 use Rattle.std.specs.Bool.{IsTrue}
 use Rattle.std.specs.Prelude.{◌↔◌}
 use Rattle.std.proofs.lemmas.Int.{to_z-of_z}

@@ -1,4 +1,4 @@
-use Rattle.std.proofs.Common.{◌≡◌, ◌+◌, ◌-◌, ◌≤◌, length}
+use Rattle.std.proofs.Common.{◌-◌, ◌≤◌, length}
 use Rattle.lane_kernels.specs.Lanes.{NoneWithin, covers}
 use Rattle.lane_kernels.proofs.covers.any_covers.Given as goal
 

@@ -1,4 +1,4 @@
-use Rattle.std.proofs.Common.{ℕ, ◌+◌, ◌∙◌, w64, to_z, of_z}
+use Rattle.std.proofs.Common.{ℕ, ◌+◌, ◌∙◌, w64}
 use Rattle.std.proofs.lemmas.Int.{to_z-of_z}
 use lib.Signed.{lt_z, le_z}
 use Rattle.lane_kernels.specs.Columns.{entry}

@@ -1,4 +1,4 @@
-use Rattle.std.proofs.Common.{◌≡◌, ◌+◌, ◌-◌, ◌≤◌, length}
+use Rattle.std.proofs.Common.{◌≡◌, ◌-◌, ◌≤◌, length}
 use Rattle.lane_kernels.specs.Columns.{AreMarked}
 use Rattle.lane_kernels.proofs.disc.within.Given as goal
 

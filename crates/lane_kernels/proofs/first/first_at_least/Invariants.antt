@@ -1,4 +1,4 @@
-use Rattle.std.proofs.Common.{◌+◌, ◌-◌, ◌≤◌, length, ◌-ℤ◌, pos}
+use Rattle.std.proofs.Common.{◌-◌, ◌≤◌, length, ◌-ℤ◌, pos}
 use Rattle.lane_kernels.specs.Lanes.{NoneWithin, is_above}
 use Rattle.lane_kernels.proofs.first.first_at_least.Given as goal
 

@@ -1,4 +1,4 @@
-use Rattle.std.proofs.Common.{ℕ, ◌≡◌, ◌%◌, ◌^◌, List, ℤ, map, not, eqb, subst, sym, w64, of_z}
+use Rattle.std.proofs.Common.{◌%◌, ◌^◌, List, ℤ, map, not, eqb, subst, sym, w64, of_z}
 use lib.Lanes.{mask_l, top}
 use Rattle.std.specs.Bool.{MatchBool}
 use Rattle.lane_kernels.specs.Lanes.{SomeWithin, NoneWithin}

@@ -1,4 +1,4 @@
-use Rattle.std.proofs.Common.{ℕ, ◌≡◌, ◌+◌, ◌<◌, ◌≤◌, length, get_or, false}
+use Rattle.std.proofs.Common.{ℕ, ◌≡◌, ◌<◌, length, get_or, false}
 use Rattle.lane_kernels.specs.Columns.{AreMarked}
 use Rattle.lane_kernels.proofs.plain.mark.Given as goal
 
