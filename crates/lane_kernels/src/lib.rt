@@ -11,3 +11,6 @@ mod lanes;
 pub use covers::any_covers;
 pub use first::first_at_least;
 pub use disc::within;
+
+#[cfg(test)]
+mod tests;
