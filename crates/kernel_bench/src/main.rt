@@ -12,9 +12,10 @@ use std::io;
 const LENGTHS: [usize; 4] = [8, 64, 1024, 65_536];
 
 fn main(rt: HostRuntime) -> io::Result<()> {
+    // The first word is the name of the program.
     let words = env::args(&rt)?.count();
     for length in LENGTHS {
-        if words > 0 {
+        if words > 1 {
             measure::time_all(&rt, length)?;
         } else {
             measure::compare_all(&rt, length)?;

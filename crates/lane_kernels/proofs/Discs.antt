@@ -10,7 +10,6 @@ use Rattle.lane_kernels.specs.Columns.{entry, square, is_in_reach, is_within, Ar
 use Rattle.lane_kernels.proofs.Vectors.{by_test}
 use Rattle.std.proofs.lemmas.Int.{ints, to_z-of_z, by_lt_z}
 use Rattle.std.specs.Prelude.{IsTrue, ◌↔◌, not}
-use Rattle.std.specs.Bool.{MatchBool}
 
 pub square_abs : (d : ℤ) → square d ≡ pos (unsigned_abs d * unsigned_abs d)
 square_abs (pos n) = refl
@@ -124,6 +123,6 @@ pub strip_seen : (column : List ℤ) (x r : ℤ) (k : ℕ) → IsCoordinate x �
     → is_between column (to_z w64 (of_z w64 (to_z w64 (of_z w64 (to_z w64 (of_z w64 x) -ℤ to_z w64 (of_z w64 r))) -ℤ pos 1))) (to_z w64 (of_z w64 (to_z w64 (of_z w64 x) +ℤ to_z w64 (of_z w64 r)))) k ≡ is_between column ((x -ℤ r) -ℤ pos 1) (x +ℤ r) k
 strip_seen column x r k h near = λ j. is_between column (low_edge x r h near j) (high_edge x r h near j) k
 
-pub not_found : (found : Bool) (P Q : Type 0) → MatchBool found P Q → IsTrue (not found) → Q
-not_found true P Q h e = absurd (cc)
-not_found false P Q h e = h
+pub is_false : (b : Bool) → IsTrue (not b) → b ≡ false
+is_false true e = absurd (cc)
+is_false false e = refl

@@ -6,8 +6,8 @@ use Rattle.lane_kernels.proofs.disc.within.Goals as goal
 
 pub loop-at-preserved : goal.loop-at-preserved
 loop-at-preserved c =
-    let joined = marks_joined c.args.xs.now c.args.ys.now (to_z w64 (of_z w64 c.args.x)) (to_z w64 (of_z w64 c.args.y)) (to_z w64 (of_z w64 c.args.reach)) 0 c.loop-at.at (c.loop-at.at + 8) c.loop-at.out c.mark_group.new.out
-        c.loop-at.invariant.2 c.mark_group.ensures.kept c.mark_group.ensures.marked in
+    let joined = marks_joined c.args.xs.now c.args.ys.now (to_z w64 (of_z w64 c.args.x)) (to_z w64 (of_z w64 c.args.y)) (to_z w64 (of_z w64 c.args.reach)) 0 c.loop-at.at (c.loop-at.at + 64) c.loop-at.out c.mark_block.new.out
+        c.loop-at.invariant.2 c.mark_block.ensures.kept c.mark_block.ensures.marked in
     (omega arith, omega arith, joined)
 
 pub returns : goal.returns

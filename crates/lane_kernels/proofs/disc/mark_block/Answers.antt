@@ -1,7 +1,7 @@
 use Rattle.std.proofs.Common.{sym, ◌∙◌, w64}
 use Rattle.std.proofs.lemmas.Int.{to_z-of_z}
 use Rattle.lane_kernels.specs.Columns.{is_within}
-use Rattle.lane_kernels.proofs.disc.mark_group.Goals as goal
+use Rattle.lane_kernels.proofs.disc.mark_block.Goals as goal
 
 pub returns-then-is_far-clause-marked : goal.returns-then-is_far-clause-marked
 returns-then-is_far-clause-marked c = λ k low high.
