@@ -14,7 +14,9 @@ pub fn numbers(alloc: Global, count: usize, seed: u64, spread: u64) -> Result<Ve
     let mut state = seed;
     let mut column = Vec::new(alloc);
     for _ in 0..count {
-        state = state.wrapping_mul(6_364_136_223_846_793_005).wrapping_add(1_442_695_040_888_963_407);
+        state = state
+            .wrapping_mul(6_364_136_223_846_793_005)
+            .wrapping_add(1_442_695_040_888_963_407);
         column.push(below(state >> 20, spread))?;
     }
     Ok(column)

@@ -6,8 +6,7 @@
 mod columns;
 mod measure;
 
-use std::env;
-use std::io;
+use std::{env, io};
 
 const LENGTHS: [usize; 4] = [8, 64, 1024, 65_536];
 

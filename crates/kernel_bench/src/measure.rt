@@ -17,6 +17,7 @@ enum Form {
 
 // Each length is run over as many entries, and the least time of several runs counts, since the machine does other work too.
 const ENTRIES: usize = 4_000_000;
+
 const RUNS: usize = 15;
 
 fn repeats(length: usize) -> usize {
@@ -24,12 +25,18 @@ fn repeats(length: usize) -> usize {
 }
 
 fn nanoseconds(time: Duration) -> u64 {
-    time.as_secs().wrapping_mul(1_000_000_000).wrapping_add(u64::from(time.subsec_nanos()))
+    time.as_secs()
+        .wrapping_mul(1_000_000_000)
+        .wrapping_add(u64::from(time.subsec_nanos()))
 }
 
 fn report(rt: &HostRuntime, name: &str, length: usize, plain: u64, lanes: u64) -> io::Result<()> {
     let percent = plain.wrapping_mul(100).checked_div(lanes).unwrap_or(0);
-    println!(rt; "{name} {length} plain {plain} lanes {lanes} ratio {}.{:02}", percent / 100, percent % 100)
+    println!(rt;
+        "{name} {length} plain {plain} lanes {lanes} ratio {}.{:02}",
+        percent / 100,
+        percent % 100
+    )
 }
 
 // No entry is as great, so the whole column is read.
@@ -91,7 +98,15 @@ fn run_within(xs: &[i64], ys: &[i64], x: i64, reach: i64, out: &mut [bool], form
     }
 }
 
-fn time_within(rt: &HostRuntime, xs: &[i64], ys: &[i64], middle: u32, reach: u16, out: &mut [bool], form: Form) -> io::Result<u64>
+fn time_within(
+    rt: &HostRuntime,
+    xs: &[i64],
+    ys: &[i64],
+    middle: u32,
+    reach: u16,
+    out: &mut [bool],
+    form: Form,
+) -> io::Result<u64>
     requires lengths { (length xs.now ≡ length ys.now) × (length xs.now ≡ length out.old) }
     requires coordinates { All IsCoordinate xs.now × All IsCoordinate ys.now }
 {
@@ -111,9 +126,21 @@ pub fn time_all(rt: &HostRuntime, length: usize) -> io::Result<()> {
     let times = columns::numbers(rt.alloc(), length, 1, 1_000_000_000)?;
     let pens = columns::numbers(rt.alloc(), length, 2, 1_000_000_000)?;
     let plain = time_first(rt, &times, Form::Plain)?;
-    report(rt, "first_at_least", length, plain, time_first(rt, &times, Form::Lanes)?)?;
+    report(
+        rt,
+        "first_at_least",
+        length,
+        plain,
+        time_first(rt, &times, Form::Lanes)?,
+    )?;
     let plain = time_covers(rt, &times, &pens, Form::Plain)?;
-    report(rt, "any_covers", length, plain, time_covers(rt, &times, &pens, Form::Lanes)?)?;
+    report(
+        rt,
+        "any_covers",
+        length,
+        plain,
+        time_covers(rt, &times, &pens, Form::Lanes)?,
+    )?;
     time_points(rt, "within_far_apart", length, 200_000_000, 31_250)?;
     time_points(rt, "within_close_by", length, 2_000_000, 62_500)
 }
@@ -137,7 +164,12 @@ pub fn compare_all(rt: &HostRuntime, length: usize) -> io::Result<()> {
     let mut by_plain = columns::marks(rt.alloc(), length)?;
     run_within(&xs, &ys, 1_000_000, 1_000_000, &mut marked, Form::Lanes);
     run_within(&xs, &ys, 1_000_000, 1_000_000, &mut by_plain, Form::Plain);
-    let first = lane_kernels::first_at_least(&xs, 1_999_000) == plain::first_at_least(&xs, 1_999_000);
-    let covers = lane_kernels::any_covers(&xs, &ys, 1000, 1000) == plain::any_covers(&xs, &ys, 1000, 1000);
-    println!(rt; "{length} entries: first_at_least {first}, any_covers {covers}, within {}", marked.as_slice() == by_plain.as_slice())
+    let first = lane_kernels::first_at_least(&xs, 1_999_000)
+        == plain::first_at_least(&xs, 1_999_000);
+    let covers = lane_kernels::any_covers(&xs, &ys, 1000, 1000)
+        == plain::any_covers(&xs, &ys, 1000, 1000);
+    println!(rt;
+        "{length} entries: first_at_least {first}, any_covers {covers}, within {}",
+        marked.as_slice() == by_plain.as_slice()
+    )
 }

@@ -1,8 +1,8 @@
 -- Squares of differences, and marks of points.
-use Rattle.std.proofs.Common.{◌≡◌, ℕ, ◌+◌, ◌*◌, ◌<◌, ◌≤◌, ℤ, pos, negsuc, ◌+ℤ◌, ◌≤ℤ◌, ◌<ℤ◌, neg_ℤ, ◌⊎◌, inl, inr, ⊎_elim, ◌&&◌, Bool, true, false, leb, List, length, get_or, ap, ◌∙◌, sym, subst, refl, arith, ltb, rules, SFits, w64, to_z, of_z, ◌-ℤ◌, set, eqb, false, get_or-set_same, get_or-set_other}
+use Rattle.std.proofs.Common.{◌≡◌, ℕ, ◌+◌, ◌*◌, ◌<◌, ◌≤◌, ℤ, pos, negsuc, ◌+ℤ◌, ◌≤ℤ◌, ◌<ℤ◌, neg_ℤ, ◌⊎◌, inl, inr, ⊎_elim, ◌&&◌, Bool, true, false, leb, min, List, length, get_or, ap, ◌∙◌, sym, subst, refl, arith, ltb, rules, SFits, w64, to_z, of_z, ◌-ℤ◌, set, eqb, false, get_or-set_same, get_or-set_other}
 use Rattle.std.specs.Int.RustNames.{unsigned_abs}
 use Rattle.std.proofs.Math.Nat.{mul-le-mul, mul-le-mul_left, mul-lt-mul_of_pos_right, lt_of_le_of_lt, le_of_lt}
-use borrow.Author.Tests.{lt-leb, leb-true, ltb-true, ltb-false, eqb-true, eqb-false}
+use borrow.Author.Tests.{lt-leb, leb-true, leb-false, ltb-true, ltb-false, eqb-true, eqb-false}
 use lib.Signed.{le_z, lt_z}
 use lib.Dec.{T}
 use Rattle.lane_kernels.specs.Lanes.{is_between}
@@ -126,3 +126,18 @@ strip_seen column x r k h near = λ j. is_between column (low_edge x r h near j)
 pub is_false : (b : Bool) → IsTrue (not b) → b ≡ false
 is_false true e = absurd (cc)
 is_false false e = refl
+
+-- a difference past the greatest reach, cut off
+kept : (a : ℕ) → a ≤ 5000000 → min a 5000001 ≡ a
+kept a h = omega arith
+
+cut : (a r : ℕ) → r ≤ 5000000 → 5000000 < a → r < min a 5000001
+cut a r small h = omega arith
+
+pub clamped : (a b r : ℕ) → r ≤ 5000000 → leb (min a 5000001 * min a 5000001 + min b 5000001 * min b 5000001) (r * r) ≡ leb (a * a + b * b) (r * r)
+clamped a b r small =
+    by_test (leb a 5000000)
+        (λ e. by_test (leb b 5000000)
+            (λ f. λ j. leb (kept a (leb-true a 5000000 e) j * kept a (leb-true a 5000000 e) j + kept b (leb-true b 5000000 f) j * kept b (leb-true b 5000000 f) j) (r * r))
+            (λ f. let far = square_below (min b 5000001) r (cut b r small (leb-false b 5000000 f)) in let past = square_below b r (omega (arith, leb-false b 5000000 f)) in lt-leb _ _ (omega arith) ∙ sym (lt-leb _ _ (omega arith))))
+        (λ e. let far = square_below (min a 5000001) r (cut a r small (leb-false a 5000000 e)) in let past = square_below a r (omega (arith, leb-false a 5000000 e)) in lt-leb _ _ (omega arith) ∙ sym (lt-leb _ _ (omega arith)))

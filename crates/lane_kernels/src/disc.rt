@@ -1,7 +1,7 @@
 ghost use Rattle.std.specs.Prelude.{◌≡◌, ◌+◌, ◌≤◌, ◌<◌, ℕ, IsTrue, false, length, slice_index_or};
 ghost use Rattle.std.specs.Bool.{MatchBool};
 ghost use Rattle.std.specs.List.{All};
-ghost use Rattle.lane_kernels.specs.Columns.{IsCoordinate, IsReach, is_within, AreMarked, IsEachMarked};
+ghost use Rattle.lane_kernels.specs.Columns.{IsCoordinate, IsReach, is_in_reach, is_within, AreMarked, IsEachMarked};
 ghost use Rattle.lane_kernels.specs.Lanes.{is_between, marks, SomeWithin, NoneWithin};
 
 use crate::lanes::{GROUP, above, any, at_most, both, either, pair};
@@ -28,7 +28,7 @@ pub fn within(xs: &[i64], ys: &[i64], x: i64, y: i64, reach: i64, out: &mut [boo
     plain::mark(xs, ys, x, y, reach, at, xs.len(), out);
 }
 
-// Most blocks are far away, and lanes tell so; the others are few, and run the plain loop.
+// Most blocks are far away, and lanes tell so; the others are tested point by point.
 fn mark_block(xs: &[i64], ys: &[i64], x: i64, y: i64, reach: i64, at: usize, out: &mut [bool])
     requires lengths { (length xs.now ≡ length ys.now) × (length xs.now ≡ length out.old) × (at + 64 ≤ length xs.now) }
     requires coordinates { All IsCoordinate xs.now × All IsCoordinate ys.now × IsCoordinate x × IsCoordinate y }
@@ -40,7 +40,7 @@ fn mark_block(xs: &[i64], ys: &[i64], x: i64, y: i64, reach: i64, at: usize, out
         mark_none(out, at);
         return;
     }
-    plain::mark(xs, ys, x, y, reach, at, at + BLOCK, out);
+    mark_near(xs, ys, x, y, reach, at, at + BLOCK, out);
 }
 
 // Whether the strips round x and y rule the whole block at `at` out. No answer of `false` says that a point is within reach.
@@ -95,4 +95,26 @@ fn mark_none(out: &mut [bool], at: usize)
     for lane in 0..BLOCK {
         out[at + lane] = false;
     }
+}
+
+// As `plain::mark`, by a test with no branch, so that the compiler takes several points at a time.
+fn mark_near(xs: &[i64], ys: &[i64], x: i64, y: i64, reach: i64, from: usize, to: usize, out: &mut [bool])
+    requires lengths { (length xs.now ≡ length ys.now) × (length xs.now ≡ length out.old) × (from ≤ to) × (to ≤ length xs.now) }
+    requires coordinates { All IsCoordinate xs.now × All IsCoordinate ys.now × IsCoordinate x × IsCoordinate y }
+    requires reachable { IsReach reach }
+    ensures marked { AreMarked xs.now ys.now x y reach from to out.new }
+    ensures kept { (k : ℕ) → k < from → slice_index_or out.new k false ≡ slice_index_or out.old k false }
+{
+    for place in from..to {
+        out[place] = is_near(xs[place] - x, ys[place] - y, reach);
+    }
+}
+
+// A difference past the greatest reach is as far as one just past it, whose square fits 64 bits.
+fn is_near(dx: i64, dy: i64, reach: i64) -> bool
+    requires { IsReach reach }
+    ensures { result ≡ is_in_reach dx dy reach }
+{
+    let (across, along, radius) = (dx.unsigned_abs().min(5_000_001), dy.unsigned_abs().min(5_000_001), reach.unsigned_abs());
+    across * across + along * along <= radius * radius
 }

@@ -10,5 +10,5 @@ returns-then-is_far-clause-marked c = λ k low high.
 
 pub returns-clause-marked : goal.returns-clause-marked
 returns-clause-marked c = λ k low high.
-    c.mark.ensures.marked k low high
+    c.mark_near.ensures.marked k low high
         ∙ (λ j. is_within c.args.xs.now c.args.ys.now (to_z-of_z w64 c.args.x c.ranges.x j) (to_z-of_z w64 c.args.y c.ranges.y j) (to_z-of_z w64 c.args.reach c.ranges.reach j) k)
