@@ -62,8 +62,8 @@ pub marked_more : (xs ys : List ℤ) (x y reach : ℤ) (low at : ℕ) (marks : L
     → AreMarked xs ys x y reach low (at + 1) (set marks at b)
 marked_more xs ys x y reach low at marks b inside before here k from below =
     by_test (eqb k at)
-        (λ e. let same : k ≡ at = eqb-true k at e in ap (λ i. get_or (set marks at b) i false) same ∙ get_or-set_same marks at b false inside ∙ here ∙ ap (is_within xs ys x y reach) (sym same))
-        (λ e. get_or-set_other marks at k b false (eqb-false k at e) ∙ before k from (omega (arith, eqb-false k at e)))
+    (λ e. let same : k ≡ at = eqb-true k at e in ap (λ i. get_or (set marks at b) i false) same ∙ get_or-set_same marks at b false inside ∙ here ∙ ap (is_within xs ys x y reach) (sym same))
+    (λ e. get_or-set_other marks at k b false (eqb-false k at e) ∙ before k from (omega (arith, eqb-false k at e)))
 
 -- the clause, from the marks of all places
 pub each_marked : (xs ys : List ℤ) (x y reach : ℤ) (marks : List Bool) → AreMarked xs ys x y reach 0 (length xs) marks → IsEachMarked xs ys x y reach marks
@@ -137,7 +137,7 @@ cut a r small h = omega arith
 pub clamped : (a b r : ℕ) → r ≤ 5000000 → leb (min a 5000001 * min a 5000001 + min b 5000001 * min b 5000001) (r * r) ≡ leb (a * a + b * b) (r * r)
 clamped a b r small =
     by_test (leb a 5000000)
-        (λ e. by_test (leb b 5000000)
-            (λ f. λ j. leb (kept a (leb-true a 5000000 e) j * kept a (leb-true a 5000000 e) j + kept b (leb-true b 5000000 f) j * kept b (leb-true b 5000000 f) j) (r * r))
-            (λ f. let far = square_below (min b 5000001) r (cut b r small (leb-false b 5000000 f)) in let past = square_below b r (omega (arith, leb-false b 5000000 f)) in lt-leb _ _ (omega arith) ∙ sym (lt-leb _ _ (omega arith))))
-        (λ e. let far = square_below (min a 5000001) r (cut a r small (leb-false a 5000000 e)) in let past = square_below a r (omega (arith, leb-false a 5000000 e)) in lt-leb _ _ (omega arith) ∙ sym (lt-leb _ _ (omega arith)))
+    (λ e. by_test (leb b 5000000)
+    (λ f. λ j. leb (kept a (leb-true a 5000000 e) j * kept a (leb-true a 5000000 e) j + kept b (leb-true b 5000000 f) j * kept b (leb-true b 5000000 f) j) (r * r))
+    (λ f. let far = square_below (min b 5000001) r (cut b r small (leb-false b 5000000 f)) in let past = square_below b r (omega (arith, leb-false b 5000000 f)) in lt-leb _ _ (omega arith) ∙ sym (lt-leb _ _ (omega arith))))
+    (λ e. let far = square_below (min a 5000001) r (cut a r small (leb-false a 5000000 e)) in let past = square_below a r (omega (arith, leb-false a 5000000 e)) in lt-leb _ _ (omega arith) ∙ sym (lt-leb _ _ (omega arith)))

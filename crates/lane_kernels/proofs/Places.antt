@@ -30,9 +30,9 @@ in_four p at n i = (p (at + i) || p ((at + n) + i)) || (p ((at + 2 * n) + i) || 
 some_in_four : (p : ℕ → Bool) (at n : ℕ) → SomeWithin (in_four p at n) 0 n → SomeWithin p at (at + 4 * n)
 some_in_four p at n (i, low, high, e) =
     ⊎_elim
-        (λ front. ⊎_elim (λ h. (at + i, omega arith, omega arith, h)) (λ h. ((at + n) + i, omega arith, omega arith, h)) (or_true (p (at + i)) (p ((at + n) + i)) front))
-        (λ back. ⊎_elim (λ h. ((at + 2 * n) + i, omega arith, omega arith, h)) (λ h. ((at + 3 * n) + i, omega arith, omega arith, h)) (or_true (p ((at + 2 * n) + i)) (p ((at + 3 * n) + i)) back))
-        (or_true (p (at + i) || p ((at + n) + i)) (p ((at + 2 * n) + i) || p ((at + 3 * n) + i)) e)
+    (λ front. ⊎_elim (λ h. (at + i, omega arith, omega arith, h)) (λ h. ((at + n) + i, omega arith, omega arith, h)) (or_true (p (at + i)) (p ((at + n) + i)) front))
+    (λ back. ⊎_elim (λ h. ((at + 2 * n) + i, omega arith, omega arith, h)) (λ h. ((at + 3 * n) + i, omega arith, omega arith, h)) (or_true (p ((at + 2 * n) + i)) (p ((at + 3 * n) + i)) back))
+    (or_true (p (at + i) || p ((at + n) + i)) (p ((at + 2 * n) + i) || p ((at + 3 * n) + i)) e)
 
 -- one of the vectors, from `base` on
 none_in_one : (p : ℕ → Bool) (base n : ℕ) → ((i : ℕ) → i < n → p (base + i) ≡ false) → NoneWithin p base (base + n)
@@ -48,9 +48,9 @@ none_in_four p at n none =
     let third : NoneWithin p (at + 2 * n) ((at + 2 * n) + n) = none_in_one p (at + 2 * n) n (λ i h. (or_false _ _ (halves i h).1).0) in
     let fourth : NoneWithin p (at + 3 * n) ((at + 3 * n) + n) = none_in_one p (at + 3 * n) n (λ i h. (or_false _ _ (halves i h).1).1) in
     λ k low high. by_test (ltb k (at + n)) (λ e. first k low (omega (arith, ltb-true)))
-        (λ a. by_test (ltb k (at + 2 * n)) (λ e. second k (omega (arith, ltb-false)) (omega (arith, ltb-true)))
-            (λ b. by_test (ltb k (at + 3 * n)) (λ e. third k (omega (arith, ltb-false)) (omega (arith, ltb-true)))
-                (λ e. fourth k (omega (arith, ltb-false)) (omega arith))))
+    (λ a. by_test (ltb k (at + 2 * n)) (λ e. second k (omega (arith, ltb-false)) (omega (arith, ltb-true)))
+    (λ b. by_test (ltb k (at + 3 * n)) (λ e. third k (omega (arith, ltb-false)) (omega (arith, ltb-true)))
+    (λ e. fourth k (omega (arith, ltb-false)) (omega arith))))
 
 pub four_vectors : (p : ℕ → Bool) (at n : ℕ) (found : Bool)
     → MatchBool found (SomeWithin (in_four p at n) 0 n) (NoneWithin (in_four p at n) 0 n)
@@ -74,11 +74,11 @@ pub first_joined : (column : List ℤ) (t : ℤ) (at r : ℕ) → at ≤ length 
 first_joined column t at r inside none rest =
     let here : (k : ℕ) → entry (drop at column) k ≡ entry column (at + k) = λ k. get_or-drop at column k (pos 0) in
     record {
-        within = let low = rest.within in omega (arith, length-drop {A = ℤ});
-        before = λ k h. by_test (ltb k at)
-            (λ e. below_limit (entry column k) t (none k (omega arith) (omega (arith, ltb-true))))
-            (λ e. let same : at + (k - at) ≡ k = omega (arith, ltb-false) in subst (λ (z : ℤ). z <ℤ t) (here (k - at) ∙ ap (entry column) same) (rest.before (k - at) (omega (arith, ltb-false))));
-        here = λ h. subst (λ (z : ℤ). t ≤ℤ z) (here r) (rest.here (omega (arith, length-drop {A = ℤ})));
+      within = let low = rest.within in omega (arith, length-drop {A = ℤ});
+      before = λ k h. by_test (ltb k at)
+          (λ e. below_limit (entry column k) t (none k (omega arith) (omega (arith, ltb-true))))
+          (λ e. let same : at + (k - at) ≡ k = omega (arith, ltb-false) in subst (λ (z : ℤ). z <ℤ t) (here (k - at) ∙ ap (entry column) same) (rest.before (k - at) (omega (arith, ltb-false))));
+      here = λ h. subst (λ (z : ℤ). t ≤ℤ z) (here r) (rest.here (omega (arith, length-drop {A = ℤ})));
     }
 
 and_truth : (a b : Bool) → T a → T b → (a && b) ≡ true
@@ -101,13 +101,18 @@ covers_truth times pens t p k early cheap = and_truth (le_z (entry times k) t) (
 -- the same of covering: no place before `at` covers, so a place that does is in the rest
 pub covers_joined : (times pens : List ℤ) (t p : ℤ) (at : ℕ) (P : Type 0) → at ≤ length times → NoneWithin (covers times pens t p) 0 at
     → P ↔ SomeCovers (drop at times) (drop at pens) t p → P ↔ SomeCovers times pens t p
-covers_joined times pens t p at P inside none rest =
-    (λ h. some_covers times pens t p at (rest.0 h), λ (k, below, early, cheap). by_test (ltb k at)
-        (λ e. absurd (both_ways (covers times pens t p k) (none k (omega arith) (omega (arith, ltb-true))) (covers_truth times pens t p k early cheap)))
-        (λ e. let same : at + (k - at) ≡ k = omega (arith, ltb-false) in
-            rest.1 (k - at, omega (arith, length-drop {A = ℤ}, ltb-false),
-                subst (λ (z : ℤ). z ≤ℤ t) (sym (get_or-drop at times (k - at) (pos 0) ∙ ap (entry times) same)) early,
-                subst (λ (z : ℤ). z ≤ℤ p) (sym (get_or-drop at pens (k - at) (pos 0) ∙ ap (entry pens) same)) cheap)))
+covers_joined times pens t p at P inside none rest = (
+  λ h. some_covers times pens t p at (rest.0 h),
+  λ (k, below, early, cheap). by_test (ltb k at)
+      (λ e. absurd (both_ways (covers times pens t p k) (none k (omega arith) (omega (arith, ltb-true))) (covers_truth times pens t p k early cheap)))
+      (λ e. let same : at + (k - at) ≡ k = omega (arith, ltb-false) in
+      rest.1 (
+        k - at,
+        omega (arith, length-drop {A = ℤ}, ltb-false),
+        subst (λ (z : ℤ). z ≤ℤ t) (sym (get_or-drop at times (k - at) (pos 0) ∙ ap (entry times) same)) early,
+        subst (λ (z : ℤ). z ≤ℤ p) (sym (get_or-drop at pens (k - at) (pos 0) ∙ ap (entry pens) same)) cheap,
+      )),
+)
 
 -- a place of a group that covers
 pub some_in_group : (times pens : List ℤ) (t p : ℤ) (low high : ℕ) → high ≤ length times → SomeWithin (covers times pens t p) low high → SomeCovers times pens t p

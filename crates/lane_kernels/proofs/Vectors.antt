@@ -23,8 +23,8 @@ lane_wise act f g h n each =
     let vs = range_with_len 0 n in
     let both : ℕ → ℤ = λ i. to_z w64 (act (of_z w64 (f i)) (of_z w64 (g i))) in
     ap (map (to_z w64)) (zip2_of_maps act (λ i. of_z w64 (f i)) (λ i. of_z w64 (g i)) vs (map-map (of_z w64) f vs) (map-map (of_z w64) g vs))
-        ∙ map-map (to_z w64) (λ i. act (of_z w64 (f i)) (of_z w64 (g i))) vs
-        ∙ fill_by_all h (map both vs) n (pos 0) (length-map-range_with_len both 0 n) (λ k below. get_or-map-range_with_len both 0 n k k (pos 0) below (zero-add k) ∙ each k below)
+    ∙ map-map (to_z w64) (λ i. act (of_z w64 (f i)) (of_z w64 (g i))) vs
+    ∙ fill_by_all h (map both vs) n (pos 0) (length-map-range_with_len both 0 n) (λ k below. get_or-map-range_with_len both 0 n k k (pos 0) below (zero-add k) ∙ each k below)
 
 -- what is read back of a comparison
 pub flag_lane : (b : Bool) → to_z w64 (cond b (2 ^ 64 - 1) 0) ≡ flag b
@@ -53,15 +53,15 @@ pub none_set : (p : ℕ → Bool) (a n : ℕ) → mask_l (map p (range_with_len 
 none_set p a zero e k low high = absurd (omega arith)
 none_set p a (suc n) e k low high =
     by_test (p a)
-        (λ yes. let one = set_lane (p a) (mask_l (map p (range_with_len (a + 1) n))) yes in absurd (omega arith))
-        (λ no. ⊎_elim (λ (same : k ≡ a). ap p same ∙ no) (λ (past : a + 1 ≤ k). none_set p (a + 1) n (omega arith) k past (omega arith)) (first_or_later a k low))
+    (λ yes. let one = set_lane (p a) (mask_l (map p (range_with_len (a + 1) n))) yes in absurd (omega arith))
+    (λ no. ⊎_elim (λ (same : k ≡ a). ap p same ∙ no) (λ (past : a + 1 ≤ k). none_set p (a + 1) n (omega arith) k past (omega arith)) (first_or_later a k low))
 
 pub some_set : (p : ℕ → Bool) (a n : ℕ) → 0 < mask_l (map p (range_with_len a n)) → SomeWithin p a (a + n)
 some_set p a zero h = absurd (omega arith)
 some_set p a (suc n) h =
     by_test (p a)
-        (λ yes. (a, omega arith, omega arith, yes))
-        (λ no. let rest = some_set p (a + 1) n (unset_lane (p a) (mask_l (map p (range_with_len (a + 1) n))) no h) in (rest.0, omega arith, omega arith, rest.3))
+    (λ yes. (a, omega arith, omega arith, yes))
+    (λ no. let rest = some_set p (a + 1) n (unset_lane (p a) (mask_l (map p (range_with_len (a + 1) n))) no h) in (rest.0, omega arith, omega arith, rest.3))
 
 above_zero : (m : ℕ) → ¬ (m ≡ 0) → 0 < m
 above_zero zero h = absurd (h refl)
@@ -88,7 +88,7 @@ pub any_lane : (p : ℕ → Bool) (n : ℕ) → n ≤ 64
 any_lane p n small =
     let bits = mask_l (map p (range_with_len 0 n)) in
     let read : mask_l (map (top 63) (map (of_z w64) (marks p n))) % 2 ^ 64 ≡ bits =
-        ap (λ ms. mask_l ms % 2 ^ 64) (marks_read p n) ∙ mask_l-mod (map p (range_with_len 0 n)) 64 (le_along (length-map-range_with_len p 0 n) small) in
+    ap (λ ms. mask_l ms % 2 ^ 64) (marks_read p n) ∙ mask_l-mod (map p (range_with_len 0 n)) 64 (le_along (length-map-range_with_len p 0 n) small) in
     let Is : ℕ → ℕ → Type 0 = λ m high. MatchBool (not (eqb m 0)) (SomeWithin p 0 high) (NoneWithin p 0 high) in
     subst (λ m. Is m n) (sym read) (subst (λ high. Is bits high) (zero-add n) (by_zero bits (some_set p 0 n) (none_set p 0 n)))
 
@@ -98,23 +98,23 @@ pub above_lanes : (n : ℕ) (limit : ℤ) (xs : List ℤ) (f : ℕ → ℤ) → 
 above_lanes n limit xs f fits e each =
     let act : ℕ → ℕ → ℕ = λ a b. cond (lt_z (to_z w64 a) (to_z w64 b)) (2 ^ 64 - 1) 0 in
     (λ j. map (to_z w64) (zip2 act (splat n limit j) (map (of_z w64) (e j))))
-        ∙ lane_wise act (λ _. limit) f (λ i. flag (lt_z limit (f i))) n
-            (λ i h. flag_lane (lt_z (to_z w64 (of_z w64 limit)) (to_z w64 (of_z w64 (f i)))) ∙ (λ j. flag (lt_z (to_z-of_z w64 limit fits j) (to_z-of_z w64 (f i) (each i h) j))))
+    ∙ lane_wise act (λ _. limit) f (λ i. flag (lt_z limit (f i))) n
+    (λ i h. flag_lane (lt_z (to_z w64 (of_z w64 limit)) (to_z w64 (of_z w64 (f i)))) ∙ (λ j. flag (lt_z (to_z-of_z w64 limit fits j) (to_z-of_z w64 (f i) (each i h) j))))
 
 pub at_most_lanes : (n : ℕ) (limit : ℤ) (xs : List ℤ) (f : ℕ → ℤ) → SFits w64 limit → xs ≡ lanes f n → ((i : ℕ) → i < n → SFits w64 (f i))
     → map (to_z w64) (zip2 (λ a b. cond (le_z (to_z w64 a) (to_z w64 b)) (2 ^ 64 - 1) 0) (map (of_z w64) xs) (replicate n (of_z w64 limit))) ≡ marks (λ i. le_z (f i) limit) n
 at_most_lanes n limit xs f fits e each =
     let act : ℕ → ℕ → ℕ = λ a b. cond (le_z (to_z w64 a) (to_z w64 b)) (2 ^ 64 - 1) 0 in
     (λ j. map (to_z w64) (zip2 act (map (of_z w64) (e j)) (splat n limit j)))
-        ∙ lane_wise act f (λ _. limit) (λ i. flag (le_z (f i) limit)) n
-            (λ i h. flag_lane (le_z (to_z w64 (of_z w64 (f i))) (to_z w64 (of_z w64 limit))) ∙ (λ j. flag (le_z (to_z-of_z w64 (f i) (each i h) j) (to_z-of_z w64 limit fits j))))
+    ∙ lane_wise act f (λ _. limit) (λ i. flag (le_z (f i) limit)) n
+    (λ i h. flag_lane (le_z (to_z w64 (of_z w64 (f i))) (to_z w64 (of_z w64 limit))) ∙ (λ j. flag (le_z (to_z-of_z w64 (f i) (each i h) j) (to_z-of_z w64 limit fits j))))
 
 -- an operator on two masks
 pub masked : (act : ℕ → ℕ → ℕ) (test : Bool → Bool → Bool) → ((a b : Bool) → to_z w64 (act (of_z w64 (flag a)) (of_z w64 (flag b))) ≡ flag (test a b))
     → (n : ℕ) (xs ys : List ℤ) (p q : ℕ → Bool) → xs ≡ marks p n → ys ≡ marks q n → map (to_z w64) (zip2 act (map (of_z w64) xs) (map (of_z w64) ys)) ≡ marks (λ i. test (p i) (q i)) n
 masked act test each n xs ys p q e h =
     (λ j. map (to_z w64) (zip2 act (map (of_z w64) (e j)) (map (of_z w64) (h j))))
-        ∙ lane_wise act (λ i. flag (p i)) (λ i. flag (q i)) (λ i. flag (test (p i) (q i))) n (λ i below. each (p i) (q i))
+    ∙ lane_wise act (λ i. flag (p i)) (λ i. flag (q i)) (λ i. flag (test (p i) (q i))) n (λ i below. each (p i) (q i))
 
 pub or_flags : (a b : Bool) → to_z w64 (bit_or (of_z w64 (flag a)) (of_z w64 (flag b))) ≡ flag (a || b)
 or_flags true true = refl
@@ -134,7 +134,7 @@ again n xs f e each =
     let vs = range_with_len 0 n in
     let back : ℕ → ℤ = λ i. to_z w64 (of_z w64 (f i)) in
     (λ j. map (to_z w64) (map (of_z w64) (e j))) ∙ ap (map (to_z w64)) (map-map (of_z w64) f vs) ∙ map-map (to_z w64) (λ i. of_z w64 (f i)) vs
-        ∙ fill_by_all f (map back vs) n (pos 0) (length-map-range_with_len back 0 n) (λ k below. get_or-map-range_with_len back 0 n k k (pos 0) below (zero-add k) ∙ to_z-of_z w64 (f k) (each k below))
+    ∙ fill_by_all f (map back vs) n (pos 0) (length-map-range_with_len back 0 n) (λ k below. get_or-map-range_with_len back 0 n k k (pos 0) below (zero-add k) ∙ to_z-of_z w64 (f k) (each k below))
 
 flag_fits : (b : Bool) → SFits w64 (flag b)
 flag_fits true = record { sfits = omega arith }

@@ -27,8 +27,14 @@ fn any_in_group(times: &[i64], pens: &[i64], at: usize, t: i64, p: i64) -> bool
     requires { (at + 8 ≤ length times.now) × (at + 8 ≤ length pens.now) }
     ensures { MatchBool result (SomeWithin (covers times.now pens.now t p) at (at + 8)) (NoneWithin (covers times.now pens.now t p) at (at + 8)) }
 {
-    let front = either(covering(times, pens, at, t, p), covering(times, pens, at + 2, t, p));
-    let back = either(covering(times, pens, at + 4, t, p), covering(times, pens, at + 6, t, p));
+    let front = either(
+        covering(times, pens, at, t, p),
+        covering(times, pens, at + 2, t, p),
+    );
+    let back = either(
+        covering(times, pens, at + 4, t, p),
+        covering(times, pens, at + 6, t, p),
+    );
     any(either(front, back))
 }
 

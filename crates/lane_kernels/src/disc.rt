@@ -74,8 +74,14 @@ fn any_between(column: &[i64], at: usize, low: i64, high: i64) -> bool
     requires { at + 8 ≤ length column.now }
     ensures { MatchBool result (SomeWithin (is_between column.now low high) at (at + 8)) (NoneWithin (is_between column.now low high) at (at + 8)) }
 {
-    let front = either(between(column, at, low, high), between(column, at + 2, low, high));
-    let back = either(between(column, at + 4, low, high), between(column, at + 6, low, high));
+    let front = either(
+        between(column, at, low, high),
+        between(column, at + 2, low, high),
+    );
+    let back = either(
+        between(column, at + 4, low, high),
+        between(column, at + 6, low, high),
+    );
     any(either(front, back))
 }
 
@@ -98,7 +104,16 @@ fn mark_none(out: &mut [bool], at: usize)
 }
 
 // As `plain::mark`, by a test with no branch, so that the compiler takes several points at a time.
-fn mark_near(xs: &[i64], ys: &[i64], x: i64, y: i64, reach: i64, from: usize, to: usize, out: &mut [bool])
+fn mark_near(
+    xs: &[i64],
+    ys: &[i64],
+    x: i64,
+    y: i64,
+    reach: i64,
+    from: usize,
+    to: usize,
+    out: &mut [bool],
+)
     requires lengths { (length xs.now ≡ length ys.now) × (length xs.now ≡ length out.old) × (from ≤ to) × (to ≤ length xs.now) }
     requires coordinates { All IsCoordinate xs.now × All IsCoordinate ys.now × IsCoordinate x × IsCoordinate y }
     requires reachable { IsReach reach }
@@ -115,6 +130,10 @@ fn is_near(dx: i64, dy: i64, reach: i64) -> bool
     requires { IsReach reach }
     ensures { result ≡ is_in_reach dx dy reach }
 {
-    let (across, along, radius) = (dx.unsigned_abs().min(5_000_001), dy.unsigned_abs().min(5_000_001), reach.unsigned_abs());
+    let (across, along, radius) = (
+        dx.unsigned_abs().min(5_000_001),
+        dy.unsigned_abs().min(5_000_001),
+        reach.unsigned_abs(),
+    );
     across * across + along * along <= radius * radius
 }

@@ -26,7 +26,13 @@ fn any_above(column: &[i64], at: usize, limit: i64) -> bool
     requires { at + 8 ≤ length column.now }
     ensures { MatchBool result (SomeWithin (is_above column.now limit) at (at + 8)) (NoneWithin (is_above column.now limit) at (at + 8)) }
 {
-    let front = either(above(pair(column, at), limit), above(pair(column, at + 2), limit));
-    let back = either(above(pair(column, at + 4), limit), above(pair(column, at + 6), limit));
+    let front = either(
+        above(pair(column, at), limit),
+        above(pair(column, at + 2), limit),
+    );
+    let back = either(
+        above(pair(column, at + 4), limit),
+        above(pair(column, at + 6), limit),
+    );
     any(either(front, back))
 }

@@ -8,12 +8,11 @@
 //! would be packed before it could be tested. `bench/kernels.sh` measures each kernel beside its plain loop.
 #![tactic(auto)]
 
-pub mod plain;
-
 mod covers;
 mod disc;
 mod first;
 mod lanes;
+pub mod plain;
 
 pub use covers::any_covers;
 pub use disc::within;

@@ -39,7 +39,16 @@ pub fn within(xs: &[i64], ys: &[i64], x: i64, y: i64, reach: i64, out: &mut [boo
 }
 
 // Marks the points from `from` on.
-pub(crate) fn mark(xs: &[i64], ys: &[i64], x: i64, y: i64, reach: i64, from: usize, to: usize, out: &mut [bool])
+pub(crate) fn mark(
+    xs: &[i64],
+    ys: &[i64],
+    x: i64,
+    y: i64,
+    reach: i64,
+    from: usize,
+    to: usize,
+    out: &mut [bool],
+)
     requires lengths { (length xs.now ≡ length ys.now) × (length xs.now ≡ length out.old) × (from ≤ to) × (to ≤ length xs.now) }
     requires coordinates { All IsCoordinate xs.now × All IsCoordinate ys.now × IsCoordinate x × IsCoordinate y }
     requires reachable { IsReach reach }

@@ -61,11 +61,22 @@ fn agrees_with_the_plain_loops_at_every_length(rt: HostRuntime) {
     for length in 0..=PLACES {
         let (front, back) = (&xs[..length], &ys[..length]);
         for t in -21..22 {
-            assert_eq!(rt; first_at_least(front, t), plain::first_at_least(front, t), "{length} {t}");
-            assert_eq!(rt; any_covers(front, back, t, -t), plain::any_covers(front, back, t, -t), "{length} {t}");
+            assert_eq!(rt;
+                first_at_least(front, t),
+                plain::first_at_least(front, t),
+                "{length} {t}"
+            );
+            assert_eq!(rt;
+                any_covers(front, back, t, t.wrapping_neg()),
+                plain::any_covers(front, back, t, t.wrapping_neg()),
+                "{length} {t}"
+            );
         }
         for reach in 0..32 {
-            assert!(rt; marks(front, back, 0, reach, true) == marks(front, back, 0, reach, false), "{length} {reach}");
+            assert!(rt;
+                marks(front, back, 0, reach, true) == marks(front, back, 0, reach, false),
+                "{length} {reach}"
+            );
         }
     }
 }
@@ -83,10 +94,39 @@ fn reads_the_ends_of_the_ranges(rt: HostRuntime) {
     assert!(rt; any_covers(&high, &high, i64::MAX, i64::MAX));
     // 3,000,000 and 4,000,000 are the sides of a right triangle whose third is 5,000,000.
     let middle = EDGE - 4_000_000;
-    let xs = [EDGE, EDGE, -EDGE, middle - 5_000_000, middle, middle, EDGE, middle, EDGE];
-    let ys = [middle - 3_000_000, middle - 3_000_001, middle, middle, -EDGE, middle, EDGE, EDGE, middle + 3_000_000];
+    let xs = [
+        EDGE,
+        EDGE,
+        -EDGE,
+        middle - 5_000_000,
+        middle,
+        middle,
+        EDGE,
+        middle,
+        EDGE,
+    ];
+    let ys = [
+        middle - 3_000_000,
+        middle - 3_000_001,
+        middle,
+        middle,
+        -EDGE,
+        middle,
+        EDGE,
+        EDGE,
+        middle + 3_000_000,
+    ];
     let marked = marks(&xs, &ys, middle, 5_000_000, true);
-    assert_eq!(rt; &marked[..9], [true, false, false, true, false, true, false, true, true].as_slice());
-    assert_eq!(rt; &marks(&[-EDGE; 9], &[-EDGE; 9], EDGE, 5_000_000, true)[..9], [false; 9].as_slice());
-    assert_eq!(rt; &marks(&[EDGE; 9], &[EDGE; 9], EDGE, 0, true)[..9], [true; 9].as_slice());
+    assert_eq!(rt;
+        &marked[..9],
+        [true, false, false, true, false, true, false, true, true].as_slice()
+    );
+    assert_eq!(rt;
+        &marks(&[-EDGE; 9], &[-EDGE; 9], EDGE, 5_000_000, true)[..9],
+        [false; 9].as_slice()
+    );
+    assert_eq!(rt;
+        &marks(&[EDGE; 9], &[EDGE; 9], EDGE, 0, true)[..9],
+        [true; 9].as_slice()
+    );
 }

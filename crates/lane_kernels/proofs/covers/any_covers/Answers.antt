@@ -15,6 +15,6 @@ returns c =
     let found = IsTrue c.any_covers.result in
     let plain : found ↔ SomeCovers (take (length times - at) (drop at times)) (take (length pens - at) (drop at pens)) (to_z w64 (of_z w64 c.args.t)) (to_z w64 (of_z w64 c.args.p)) = c.any_covers.ensures in
     let rest : found ↔ SomeCovers (drop at times) (drop at pens) c.args.t c.args.p =
-        subst (λ (x : Type 0). x) (λ j. found ↔ SomeCovers (rest_is times at j) (rest_is pens at j) (to_z-of_z w64 c.args.t c.ranges.t j) (to_z-of_z w64 c.args.p c.ranges.p j)) plain in
+    subst (λ (x : Type 0). x) (λ j. found ↔ SomeCovers (rest_is times at j) (rest_is pens at j) (to_z-of_z w64 c.args.t c.ranges.t j) (to_z-of_z w64 c.args.p c.ranges.p j)) plain in
     let none = subst (λ (x : Type 0). x) (λ j. NoneWithin (covers times pens (to_z-of_z w64 c.args.t c.ranges.t j) (to_z-of_z w64 c.args.p c.ranges.p j)) 0 at) c.loop-at.invariant.1 in
     covers_joined times pens c.args.t c.args.p at found c.loop-at.invariant.0 none rest

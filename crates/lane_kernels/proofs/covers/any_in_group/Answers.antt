@@ -9,7 +9,7 @@ pub returns : goal.returns
 returns c =
     let p = covers c.args.times.now c.args.pens.now c.args.t c.args.p in
     let passed : (base : ℕ) (xs : List ℤ) → xs ≡ marks (λ i. covers c.args.times.now c.args.pens.now (to_z w64 (of_z w64 c.args.t)) (to_z w64 (of_z w64 c.args.p)) (base + i)) 2 → xs ≡ marks (λ i. p (base + i)) 2 =
-        λ base xs e. e ∙ (λ j. marks (λ i. covers c.args.times.now c.args.pens.now (to_z-of_z w64 c.args.t c.ranges.t j) (to_z-of_z w64 c.args.p c.ranges.p j) (base + i)) 2) in
+    λ base xs e. e ∙ (λ j. marks (λ i. covers c.args.times.now c.args.pens.now (to_z-of_z w64 c.args.t c.ranges.t j) (to_z-of_z w64 c.args.p c.ranges.p j) (base + i)) 2) in
     let one : ℕ → Bool = λ i. p (c.args.at + i) in
     let two : ℕ → Bool = λ i. p ((c.args.at + 2) + i) in
     let three : ℕ → Bool = λ i. p ((c.args.at + 4) + i) in

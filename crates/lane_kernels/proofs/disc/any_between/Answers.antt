@@ -9,7 +9,7 @@ pub returns : goal.returns
 returns c =
     let p = is_between c.args.column.now c.args.low c.args.high in
     let passed : (base : ℕ) (xs : List ℤ) → xs ≡ marks (λ i. is_between c.args.column.now (to_z w64 (of_z w64 c.args.low)) (to_z w64 (of_z w64 c.args.high)) (base + i)) 2 → xs ≡ marks (λ i. p (base + i)) 2 =
-        λ base xs e. e ∙ (λ j. marks (λ i. is_between c.args.column.now (to_z-of_z w64 c.args.low c.ranges.low j) (to_z-of_z w64 c.args.high c.ranges.high j) (base + i)) 2) in
+    λ base xs e. e ∙ (λ j. marks (λ i. is_between c.args.column.now (to_z-of_z w64 c.args.low c.ranges.low j) (to_z-of_z w64 c.args.high c.ranges.high j) (base + i)) 2) in
     let one : ℕ → Bool = λ i. p (c.args.at + i) in
     let two : ℕ → Bool = λ i. p ((c.args.at + 2) + i) in
     let three : ℕ → Bool = λ i. p ((c.args.at + 4) + i) in

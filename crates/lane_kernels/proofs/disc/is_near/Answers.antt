@@ -18,5 +18,5 @@ returns c =
     let b = c.min-along.ensures ∙ ap (λ n. min n 5000001) (c.unsigned_abs-2.ensures.value ∙ ap unsigned_abs (to_z-of_z w64 c.args.dy c.ranges.dy)) in
     let r = c.unsigned_abs-radius.ensures.value ∙ ap unsigned_abs (to_z-of_z w64 c.args.reach c.ranges.reach) in
     (λ j. leb (a j * a j + b j * b j) (r j * r j))
-        ∙ clamped (unsigned_abs c.args.dx) (unsigned_abs c.args.dy) (unsigned_abs c.args.reach) (reach_bound c.args.reach c.requires)
-        ∙ sym (in_reach_abs c.args.dx c.args.dy c.args.reach)
+    ∙ clamped (unsigned_abs c.args.dx) (unsigned_abs c.args.dy) (unsigned_abs c.args.reach) (reach_bound c.args.reach c.requires)
+    ∙ sym (in_reach_abs c.args.dx c.args.dy c.args.reach)

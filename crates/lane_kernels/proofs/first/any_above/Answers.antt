@@ -11,7 +11,7 @@ returns c =
     let p = is_above c.args.column.now c.args.limit in
     let from : ℕ → ℕ → ℤ = λ base i. entry c.args.column.now (base + i) in
     let passed : (base : ℕ) (xs : List ℤ) → xs ≡ marks (λ i. is_above c.args.column.now (to_z w64 (of_z w64 c.args.limit)) (base + i)) 2 → xs ≡ marks (λ i. p (base + i)) 2 =
-        λ base xs e. e ∙ (λ j. marks (λ i. is_above c.args.column.now (to_z-of_z w64 c.args.limit c.ranges.limit j) (base + i)) 2) in
+    λ base xs e. e ∙ (λ j. marks (λ i. is_above c.args.column.now (to_z-of_z w64 c.args.limit c.ranges.limit j) (base + i)) 2) in
     let one : ℕ → Bool = λ i. p (c.args.at + i) in
     let two : ℕ → Bool = λ i. p ((c.args.at + 2) + i) in
     let three : ℕ → Bool = λ i. p ((c.args.at + 4) + i) in

@@ -11,7 +11,7 @@ loop-place-preserved c =
     let ys = c.args.ys.now in
     let at = c.loop-place.place in
     let same : (marks : List Bool) (high : ℕ) → AreMarked xs ys (to_z w64 (of_z w64 c.args.x)) (to_z w64 (of_z w64 c.args.y)) (to_z w64 (of_z w64 c.args.reach)) c.args.from high marks ≡ AreMarked xs ys c.args.x c.args.y c.args.reach c.args.from high marks =
-        λ marks high j. AreMarked xs ys (to_z-of_z w64 c.args.x c.ranges.x j) (to_z-of_z w64 c.args.y c.ranges.y j) (to_z-of_z w64 c.args.reach c.ranges.reach j) c.args.from high marks in
+    λ marks high j. AreMarked xs ys (to_z-of_z w64 c.args.x c.ranges.x j) (to_z-of_z w64 c.args.y c.ranges.y j) (to_z-of_z w64 c.args.reach c.ranges.reach j) c.args.from high marks in
     let across : IsCoordinate (get_or xs at (pos 0)) = All-get_or IsCoordinate xs at (pos 0) (omega arith) c.requires.coordinates.0 in
     let along : IsCoordinate (get_or ys at (pos 0)) = All-get_or IsCoordinate ys at (pos 0) (omega arith) c.requires.coordinates.1 in
     let here = c.is_near.ensures ∙ (λ j. is_in_reach (seen (get_or xs at (pos 0)) c.args.x across c.requires.coordinates.2 j) (seen (get_or ys at (pos 0)) c.args.y along c.requires.coordinates.3 j) (to_z-of_z w64 c.args.reach c.ranges.reach j)) in

@@ -9,4 +9,4 @@ returns c =
     let xs = c.args.xs.now in
     let ys = c.args.ys.now in
     each_marked xs ys c.args.x c.args.y c.args.reach c.mark.new.out
-        (subst (λ (x : Type 0). x) (λ j. AreMarked xs ys (to_z-of_z w64 c.args.x c.ranges.x j) (to_z-of_z w64 c.args.y c.ranges.y j) (to_z-of_z w64 c.args.reach c.ranges.reach j) 0 (length xs) c.mark.new.out) c.mark.ensures.marked)
+    (subst (λ (x : Type 0). x) (λ j. AreMarked xs ys (to_z-of_z w64 c.args.x c.ranges.x j) (to_z-of_z w64 c.args.y c.ranges.y j) (to_z-of_z w64 c.args.reach c.ranges.reach j) 0 (length xs) c.mark.new.out) c.mark.ensures.marked)
