@@ -1,0 +1,6 @@
+pub mod Fields
+pub mod Head
+pub mod Held
+pub mod Item
+pub mod Lines
+pub mod Scan
