@@ -86,11 +86,11 @@ EndsSo held ahead.ReadFault = ⊥
 EndsSo held ahead.Memory = ⊥
 
 -- the request that a head with this body makes
-pub record AsksFor (asked : Asked) (body : List ℕ) (request : HttpRequest) : Type 0 where
+pub record AsksFor (asked : Asked) (content : List ℕ) (request : HttpRequest) : Type 0 where
   pub method : request.method ≡ asked.method
   pub target : request.target ≡ asked.target
   pub close : request.close ≡ asked.close
-  pub body : request.body ≡ kept_body asked.method body
+  pub body : request.body ≡ kept_body asked.method content
 
 -- fewer bytes than these are held and left, where the source tells what it has left
 abbrev pub IsShorter : Option (List ℕ) → List ℕ → Option (List ℕ) → ℕ → Type 0

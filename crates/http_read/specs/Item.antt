@@ -1,5 +1,5 @@
 -- What stands at the front of a stream of requests (RFC 9112, sections 2.1 and 9.3).
-use Rattle.std.specs.Prelude.{◌≡◌, ℕ, ◌+◌, ◌<◌, ◌≤◌, ◌⊎◌, ¬◌, List, [], ◌++◌, length, Option, Some, None}
+use Rattle.std.specs.Prelude.{◌≡◌, ℕ, ◌+◌, ◌<◌, ◌≤◌, ◌⊎◌, List, [], ◌++◌, length, Option, Some, None}
 use Rattle.httparse.specs.Grammar.{RequestHead}
 use Rattle.http_read.specs.Lines.{HasNoMark, IsSpent, HasHead}
 use Rattle.http_read.specs.Head.{IsHead, refusal, body_length, method_of, closes}
@@ -24,12 +24,12 @@ kept_body method.Get body = []
 kept_body method.Post body = body
 kept_body method.Other body = []
 
--- the request with this head and this body
-pub record IsRequest (h : RequestHead) (body : List ℕ) (request : HttpRequest) : Type 0 where
+-- the request with this head, whose body has this content
+pub record IsRequest (h : RequestHead) (content : List ℕ) (request : HttpRequest) : Type 0 where
   pub method : request.method ≡ method_of h.method
   pub target : request.target ≡ h.target
   pub close : request.close ≡ closes h
-  pub body : request.body ≡ kept_body (method_of h.method) body
+  pub body : request.body ≡ kept_body (method_of h.method) content
 
 -- a request stands at the front, and then rest
 abbrev pub RequestAt : List ℕ → HttpRequest → List ℕ → Type 0
