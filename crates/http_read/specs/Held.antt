@@ -21,6 +21,13 @@ Stays None before (Some after) now = ⊥
 Stays (Some left) before None now = ⊥
 Stays (Some left) before (Some after) now = before ++ left ≡ now ++ after
 
+-- whether the source tells what it has left stays so
+abbrev pub KeepsTelling : Option (List ℕ) → Option (List ℕ) → Type 0
+KeepsTelling None None = Unit {0}
+KeepsTelling None (Some after) = ⊥
+KeepsTelling (Some left) None = ⊥
+KeepsTelling (Some left) (Some after) = Unit {0}
+
 -- nothing is left, where the source tells it
 abbrev pub NoneLeft : Option (List ℕ) → Type 0
 NoneLeft None = Unit {0}
@@ -30,8 +37,8 @@ NoneLeft (Some left) = left ≡ []
 abbrev pub Fills : Option (List ℕ) → List ℕ → Option (List ℕ) → List ℕ → Filled → Type 0
 Fills left before after now filled.More = Stays left before after now × (length before < length now) × (take (length before) now ≡ before)
 Fills left before after now filled.End = Stays left before after now × NoneLeft after × (now ≡ before)
-Fills left before after now filled.Failed = Unit {0}
-Fills left before after now filled.Memory = Unit {0}
+Fills left before after now filled.Failed = KeepsTelling left after
+Fills left before after now filled.Memory = KeepsTelling left after
 
 -- a read failed only where the count rose
 abbrev pub FillsByCount : ℕ → ℕ → Filled → Type 0
@@ -54,15 +61,15 @@ LooksAhead left before after now (ahead.Head size lines) = Stays left before aft
 LooksAhead left before after now ahead.Spent = Stays left before after now
 LooksAhead left before after now ahead.End = Stays left before after now × NoneLeft after
 LooksAhead left before after now ahead.CutShort = Stays left before after now × NoneLeft after
-LooksAhead left before after now ahead.ReadFault = Unit {0}
-LooksAhead left before after now ahead.Memory = Unit {0}
+LooksAhead left before after now ahead.ReadFault = KeepsTelling left after
+LooksAhead left before after now ahead.Memory = KeepsTelling left after
 
 -- what reading so many bytes gives
 abbrev pub ReadsRest : ℕ → Option (List ℕ) → List ℕ → Option (List ℕ) → List ℕ → Rest → Type 0
 ReadsRest size left before after now rest.Whole = Stays left before after now × (length now ≡ size)
 ReadsRest size left before after now rest.CutShort = Stays left before after now × NoneLeft after × (length now < size)
-ReadsRest size left before after now rest.ReadFault = Unit {0}
-ReadsRest size left before after now rest.Memory = Unit {0}
+ReadsRest size left before after now rest.ReadFault = KeepsTelling left after
+ReadsRest size left before after now rest.Memory = KeepsTelling left after
 
 -- The answer is the item of the bytes that were held and left, and after a request the bytes after it are held and left.
 abbrev pub Answers : Option (List ℕ) → List ℕ → Option (List ℕ) → List ℕ → Next → Type 0
@@ -105,5 +112,5 @@ BodyFollows left before after now asked (next.Request request) = (body : List �
 BodyFollows left before after now asked next.End = ⊥
 BodyFollows left before after now asked (next.Refused f) = ⊥
 BodyFollows left before after now asked next.CutShort = IsShorter left before after asked.length
-BodyFollows left before after now asked next.ReadFault = Unit {0}
-BodyFollows left before after now asked next.Memory = Unit {0}
+BodyFollows left before after now asked next.ReadFault = KeepsTelling left after
+BodyFollows left before after now asked next.Memory = KeepsTelling left after
