@@ -78,7 +78,7 @@ front_long n p q past within =
     let k = n - length a in
     let same : n ≡ length a + k = omega arith in
     let split : front n (p ++ q) ≡ concat a ++ concat (take k b) =
-      ap (λ z. concat (take n z)) whole ∙ (ap (λ m. concat (take m (a ++ b))) same ∙ (ap concat (take-append-add a b k) ∙ concat-append a (take k b))) in
+    ap (λ z. concat (take n z)) whole ∙ (ap (λ m. concat (take m (a ++ b))) same ∙ (ap concat (take-append-add a b k) ∙ concat-append a (take k b))) in
     let some : 0 < length b = omega arith in
     let far = first_long (open_after [] p) q some in
     let near = first_in k b (omega arith) some in
@@ -114,8 +114,8 @@ line_feed_at p n same =
     let whole = lines_after-whole [] p in
     let begun = concat (whole_lines p) in
     let open' : drop (length begun) (p ++ 10 ∷ []) ≡ open_after [] p ++ 10 ∷ [] =
-      ap (λ z. drop (length begun) (z ++ 10 ∷ [])) whole
-      ∙ (ap (drop (length begun)) (append_assoc begun (open_after [] p) (10 ∷ [])) ∙ drop_at begun (open_after [] p ++ 10 ∷ []) (length begun) refl) in
+    ap (λ z. drop (length begun) (z ++ 10 ∷ [])) whole
+    ∙ (ap (drop (length begun)) (append_assoc begun (open_after [] p) (10 ∷ [])) ∙ drop_at begun (open_after [] p ++ 10 ∷ []) (length begun) refl) in
     ap (λ l. is_empty_line (get_or l n [])) (lines_feed p)
     ∙ (ap is_empty_line (get_or_push (whole_lines p) (open_after [] p ++ 10 ∷ []) [] n (sym same)) ∙ ap is_empty_line (sym open'))
 

@@ -159,9 +159,10 @@ pub spent_taken : (bytes : List ℕ) (n : ℕ) (s : Scan) → n ≤ length bytes
 spent_taken bytes n s within i spent =
     let size : length (take n bytes) ≡ n = length-take-le n bytes within in
     let limit : (67 ≤ s.feeds) ⊎ (16384 ≤ length (take n bytes)) = elim spent [ inl many ↦ inl many | inr long ↦ inr (omega arith) ] in
-    let feeds = i.feeds in
-    (λ more. subst HasNoMark (sym (append_assoc (take n bytes) (drop n bytes) more) ∙ ap (λ z. z ++ more) (take-append-drop n bytes)) (scan_spent (take n bytes) (drop n bytes ++ more) s i limit),
-     elim spent [
-       | inl many ↦ inl (omega (arith, lines_more (take n bytes) (drop n bytes), ap (λ z. length (whole_lines z)) (take-append-drop n bytes)))
-       | inr long ↦ inr (omega arith)
-     ])
+    let feeds = i.feeds in (
+      λ more. subst HasNoMark (sym (append_assoc (take n bytes) (drop n bytes) more) ∙ ap (λ z. z ++ more) (take-append-drop n bytes)) (scan_spent (take n bytes) (drop n bytes ++ more) s i limit),
+      elim spent [
+        | inl many ↦ inl (omega (arith, lines_more (take n bytes) (drop n bytes), ap (λ z. length (whole_lines z)) (take-append-drop n bytes)))
+        | inr long ↦ inr (omega arith)
+      ],
+    )

@@ -70,21 +70,24 @@ cut_behind whole held after size e =
 
 request_at : (whole held after : List ℕ) (size lines : ℕ) (asked : Asked) (body now rest : List ℕ) (request : HttpRequest) → whole ≡ held ++ after → HasHead held (take size held) lines → lines ≤ 64 → StartOf (take size held) (start.Asks asked) → drop size held ++ after ≡ (body ++ now) ++ rest → length body ≡ asked.length → AsksFor asked body request → RequestAt whole request (now ++ rest)
 request_at whole held after size lines asked body now rest request e h few s stays long asks = (
-    take size held, s.0, body,
-    record { lines = lines; marked = head_of_whole whole held after (take size held) lines e h; few = few; head = s.1 },
-    s.2,
-    long ∙ s.6,
-    cut_behind whole held after size e ∙ ap (λ z. take size held ++ z) (stays ∙ append_assoc body now rest),
-    record { method = asks.method ∙ s.3; target = asks.target ∙ s.4; close = asks.close ∙ s.5; body = asks.body ∙ ap (λ m. kept_body m body) s.3 }
-  )
+  take size held,
+  s.0,
+  body,
+  record { lines = lines; marked = head_of_whole whole held after (take size held) lines e h; few = few; head = s.1 },
+  s.2,
+  long ∙ s.6,
+  cut_behind whole held after size e ∙ ap (λ z. take size held ++ z) (stays ∙ append_assoc body now rest),
+  record { method = asks.method ∙ s.3; target = asks.target ∙ s.4; close = asks.close ∙ s.5; body = asks.body ∙ ap (λ m. kept_body m body) s.3 },
+)
 
 ends_in_body : (whole held after : List ℕ) (size lines : ℕ) (asked : Asked) → whole ≡ held ++ after → HasHead held (take size held) lines → lines ≤ 64 → StartOf (take size held) (start.Asks asked) → length (drop size held ++ after) < asked.length → EndsInBody whole
 ends_in_body whole held after size lines asked e h few s short = (
-    take size held, s.0,
-    record { lines = lines; marked = head_of_whole whole held after (take size held) lines e h; few = few; head = s.1 },
-    s.2,
-    let length_is = s.6 in omega (arith, ap length (cut_behind whole held after size e), length-append (take size held) (drop size held ++ after))
-  )
+  take size held,
+  s.0,
+  record { lines = lines; marked = head_of_whole whole held after (take size held) lines e h; few = few; head = s.1 },
+  s.2,
+  let length_is = s.6 in omega (arith, ap length (cut_behind whole held after size e), length-append (take size held) (drop size held ++ after)),
+)
 
 keeps_stays : (left after : Option (List ℕ)) (before now : List ℕ) → Stays left before after now → KeepsTelling left after
 keeps_stays None None before now s = tt
@@ -130,13 +133,13 @@ whole_body (Some left) None held front body n size few is s long = s
 whole_body (Some left) (Some after) held front body n size few is s long =
     elim (cases_lt size (length held)) [
       | inl more ↦
-        let cut : n ≡ size = omega arith in
-        let short : length front ≡ size = ap length is ∙ (length-take-le n held (omega arith) ∙ cut) in
-        let same : front ≡ body = sym (take_at front left size short) ∙ (ap (take size) s ∙ take_at body after size long) in
-        let rest : left ≡ after = sym (drop_at front left size short) ∙ (ap (drop size) s ∙ drop_at body after size long) in
-        ap (λ z. z ++ left) (sym (take-append-drop n held) ∙ ap (λ z. z ++ drop n held) (sym is ∙ same)) ∙ ap (λ z. (body ++ drop n held) ++ z) rest
+          let cut : n ≡ size = omega arith in
+          let short : length front ≡ size = ap length is ∙ (length-take-le n held (omega arith) ∙ cut) in
+          let same : front ≡ body = sym (take_at front left size short) ∙ (ap (take size) s ∙ take_at body after size long) in
+          let rest : left ≡ after = sym (drop_at front left size short) ∙ (ap (drop size) s ∙ drop_at body after size long) in
+          ap (λ z. z ++ left) (sym (take-append-drop n held) ∙ ap (λ z. z ++ drop n held) (sym is ∙ same)) ∙ ap (λ z. (body ++ drop n held) ++ z) rest
       | inr less ↦
-        let all : length held ≤ n = omega arith in
-        let same : front ≡ held = is ∙ take_all n held all in
-        ap (λ z. z ++ left) (sym same) ∙ (s ∙ ap (λ z. z ++ after) (sym (ap (λ z. body ++ z) (drop_all n held all) ∙ append-nil body)))
+          let all : length held ≤ n = omega arith in
+          let same : front ≡ held = is ∙ take_all n held all in
+          ap (λ z. z ++ left) (sym same) ∙ (s ∙ ap (λ z. z ++ after) (sym (ap (λ z. body ++ z) (drop_all n held all) ∙ append-nil body)))
     ]

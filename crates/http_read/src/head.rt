@@ -51,7 +51,12 @@ pub fn read_start(alloc: Global, text: &[u8]) -> Start
         Ok(length) => {
             let close = head.version == 0 || asks_to_close(text, &lines[..head.headers]);
             match target_of(alloc, head.path.of(text)) {
-                Some(target) => Start::Asks(Asked { method, target, close, length }),
+                Some(target) => Start::Asks(Asked {
+                    method,
+                    target,
+                    close,
+                    length,
+                }),
                 None => Start::Memory,
             }
         }

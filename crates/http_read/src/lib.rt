@@ -20,3 +20,5 @@ pub use buffered::Buffer;
 pub use request::{HeadFault, HttpRequest, Method, Next};
 pub use stream::{buffer, next_request};
 
+#[cfg(test)]
+mod tests;

@@ -50,12 +50,7 @@ pub fn next_request<S: Source>(alloc: Global, source: &mut S, buffer: &mut Buffe
 }
 
 /// Reads the body that follows a head.
-fn read_body<S: Source>(
-    alloc: Global,
-    source: &mut S,
-    buffer: &mut Buffer,
-    asked: Asked,
-) -> Next
+fn read_body<S: Source>(alloc: Global, source: &mut S, buffer: &mut Buffer, asked: Asked) -> Next
     ensures body { BodyFollows (S.left source.old) buffer.old (S.left source.new) buffer.new asked result }
     ensures room { length buffer.new ≤ 24576 }
     ensures later { S.faults source.old ≤ S.faults source.new }
@@ -79,10 +74,20 @@ fn read_body<S: Source>(
 fn request_of(alloc: Global, asked: Asked, body: Vec<u8>) -> HttpRequest
     ensures { AsksFor asked body.items result }
 {
-    let Asked { method, target, close, length: _ } = asked;
+    let Asked {
+        method,
+        target,
+        close,
+        length: _,
+    } = asked;
     let body = match method {
         Method::Post => List::from_vec(body),
         Method::Get | Method::Other => List::new(alloc),
     };
-    HttpRequest { method, target, close, body }
+    HttpRequest {
+        method,
+        target,
+        close,
+        body,
+    }
 }

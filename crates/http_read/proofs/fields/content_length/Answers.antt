@@ -25,11 +25,11 @@ pub loop-line-preserved : goal.loop-line-preserved
 loop-line-preserved c =
     elim c.if-is_same.branch [
       | then-is_same+else-is_some+in-Some w ↦
-        let named = rw c.of.ensures at (sym c.is_same.ensures ∙ w.if-is_same.true) in
-        let read = rw w.of-then-is_same.ensures at w.in-Some.ensures in
-        let next = so_far_first (codes "content-length") (header_bytes c.args.text.now) c.args.lines.now c.loop-line.line-index none c.loop-line.found _ w.in-Some.length c.loop-line-test.true named (sym w.is_some.ensures ∙ w.if-is_some.false) read c.loop-line.invariant in
-        rw w.found-is next
+          let named = rw c.of.ensures at (sym c.is_same.ensures ∙ w.if-is_same.true) in
+          let read = rw w.of-then-is_same.ensures at w.in-Some.ensures in
+          let next = so_far_first (codes "content-length") (header_bytes c.args.text.now) c.args.lines.now c.loop-line.line-index none c.loop-line.found _ w.in-Some.length c.loop-line-test.true named (sym w.is_some.ensures ∙ w.if-is_some.false) read c.loop-line.invariant in
+          rw w.found-is next
       | else-is_same w ↦
-        let other = rw c.of.ensures at (sym c.is_same.ensures ∙ w.if-is_same.false) in
-        rw w.found-is (so_far_next (codes "content-length") (header_bytes c.args.text.now) c.args.lines.now c.loop-line.line-index none c.loop-line.found _ c.loop-line-test.true other c.loop-line.invariant)
+          let other = rw c.of.ensures at (sym c.is_same.ensures ∙ w.if-is_same.false) in
+          rw w.found-is (so_far_next (codes "content-length") (header_bytes c.args.text.now) c.args.lines.now c.loop-line.line-index none c.loop-line.found _ c.loop-line-test.true other c.loop-line.invariant)
     ]

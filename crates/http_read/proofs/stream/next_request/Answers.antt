@@ -14,14 +14,14 @@ returns-in-Asks-clause-item g c =
     let text : StartOf (take size c.look_ahead.new.buffer) (start.Asks c.in-Asks.asked) = subst (λ z. StartOf (take size z) (start.Asks c.in-Asks.asked)) c.as_slice.ensures.value c.in-Asks.ensures in
     let body = rw c.take_front.ensures.rest at c.read_body.ensures.body in
     answers_asked _ _ _ c.args.buffer.now c.look_ahead.new.buffer c.read_body.new.buffer size c.in-Head.lines c.in-Asks.asked c.read_body.result
-      c.in-Head.ensures.stream c.in-Head.ensures.found.1 c.if-lines-gt-HEAD_LINES.false text body
+    c.in-Head.ensures.stream c.in-Head.ensures.found.1 c.if-lines-gt-HEAD_LINES.false text body
 
 pub returns-in-Refused-clause-item : goal.returns-in-Refused-clause-item
 returns-in-Refused-clause-item g c =
     let size = c.in-Head.size in
     let text : StartOf (take size c.look_ahead.new.buffer) (start.Refused c.in-Refused.fault) = subst (λ z. StartOf (take size z) (start.Refused c.in-Refused.fault)) c.as_slice.ensures.value c.in-Refused.ensures in
     answers_refused _ _ c.args.buffer.now c.look_ahead.new.buffer (take size c.look_ahead.new.buffer) c.in-Head.lines c.in-Refused.fault
-      c.in-Head.ensures.stream c.in-Head.ensures.found.1 c.if-lines-gt-HEAD_LINES.false text
+    c.in-Head.ensures.stream c.in-Head.ensures.found.1 c.if-lines-gt-HEAD_LINES.false text
 
 pub returns-in-Spent-clause-item : goal.returns-in-Spent-clause-item
 returns-in-Spent-clause-item g c =
