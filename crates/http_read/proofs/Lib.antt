@@ -1,5 +1,6 @@
 pub mod FieldLemmas
 pub mod LineLemmas
 pub mod NumberLemmas
+pub mod OneItemLemmas
 pub mod ScanLemmas
 pub mod StreamLemmas

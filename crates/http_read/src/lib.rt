@@ -11,12 +11,14 @@ mod body;
 mod buffered;
 mod fields;
 mod head;
+mod laws;
 mod request;
 mod scan;
 mod stream;
 mod text;
 
 pub use buffered::Buffer;
+pub use laws::one_item;
 pub use request::{HeadFault, HttpRequest, Method, Next};
 pub use stream::{buffer, next_request};
 
