@@ -3,4 +3,5 @@ pub mod LineLemmas
 pub mod NumberLemmas
 pub mod OneItemLemmas
 pub mod ScanLemmas
+pub mod SomeItemLemmas
 pub mod StreamLemmas

@@ -46,7 +46,7 @@ first_long begun (b ∷ q) =
       | false ↦ λ some. let long = first_long (begun ++ b ∷ []) q some in omega (arith, length_push begun b)
     ]
 
-concat-append : (a b : List (List ℕ)) → concat (a ++ b) ≡ concat a ++ concat b
+pub concat-append : (a b : List (List ℕ)) → concat (a ++ b) ≡ concat a ++ concat b
 concat-append [] b = refl
 concat-append (x ∷ a) b = ap (λ z. x ++ z) (concat-append a b) ∙ sym (append_assoc x (concat a) (concat b))
 

@@ -5,6 +5,10 @@ use Rattle.http_read.specs.declared.request.HttpRequest.{HttpRequest}
 use Rattle.http_read.specs.declared.request.Next.{Next}
 use Rattle.http_read.specs.declared.request.Next.TheVariants as next
 
+-- it is not so that none stands there
+abbrev pub HasSomeItem : Type 0
+HasSomeItem = (bytes : List ℕ) → ((x : Next) (r : List ℕ) → Item bytes x r → ⊥) → ⊥
+
 -- no two items stand at the front of the same bytes
 abbrev pub HasOneItem : Type 0
 HasOneItem = (bytes : List ℕ) (x y : Next) (r s : List ℕ) → Item bytes x r → Item bytes y s → x ≡ y
