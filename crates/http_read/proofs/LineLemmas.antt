@@ -1,7 +1,7 @@
 -- The lines of bytes that go on.
 use Rattle.std.proofs.Common.{◌≡◌, ℕ, ◌+◌, ◌-◌, ◌<◌, ◌≤◌, Bool, true, false, cond, eqb, List, [], ◌∷◌, ◌++◌, length, take, drop, get_or, sym, ap, refl, ◌∙◌, append_assoc, arith, length-append, suc, zero}
 use Rattle.std.specs.List.{concat}
-use Rattle.std.proofs.lemmas.List.{append-nil, get_or_append_left, take-append-le, take_all, get_or_push, length_push, drop_at, drop-append-le}
+use Rattle.std.proofs.lemmas.List.{append-nil, get_or_append_left, take-append-le, get_or_push, length_push, drop_at}
 use Rattle.std.proofs.Math.Seq.{take-append-add}
 use Rattle.http_read.specs.Lines.{lines_after, whole_lines, front, is_empty_line, is_empty_at, IsMark, HasHead}
 

@@ -1,13 +1,13 @@
 -- No two items stand at the front of the same bytes.
-use Rattle.std.proofs.Common.{◌≡◌, ℕ, ◌+◌, ◌<◌, ◌≤◌, ◌⊎◌, inl, inr, true, false, List, [], ◌++◌, length, take, drop, Option, Some, None, refl, sym, ap, subst, ◌∙◌, arith, length-append}
+use Rattle.std.proofs.Common.{◌≡◌, ℕ, ◌+◌, ◌<◌, ◌≤◌, inl, inr, List, [], ◌++◌, length, take, drop, Option, Some, None, refl, sym, ap, subst, ◌∙◌, arith, length-append}
 use Rattle.std.specs.Option.{is_some, unwrap_or}
 use Rattle.std.proofs.lemmas.Bool.{cases_lt, false≢true}
 use Rattle.std.proofs.lemmas.List.{take_at, drop_at}
-use Rattle.httparse.specs.Grammar.{RequestHead, print_request}
+use Rattle.httparse.specs.Grammar.{RequestHead}
 use Rattle.httparse.proofs.GrammarLemmas.{request_unique}
-use Rattle.http_read.specs.Lines.{whole_lines, front, is_empty_at, lines_after, IsMark, HasNoMark, IsSpent, HasHead}
+use Rattle.http_read.specs.Lines.{whole_lines, front, lines_after, IsMark, HasNoMark, IsSpent, HasHead}
 use Rattle.http_read.specs.Head.{IsHead, refusal, body_length, method_of}
-use Rattle.http_read.specs.Item.{Item, BeginsWith, RequestAt, RefusedAt, HasManyLines, HasBadHead, EndsInHead, EndsInBody, IsRequest, kept_body}
+use Rattle.http_read.specs.Item.{Item, RequestAt, RefusedAt, IsRequest, kept_body}
 use Rattle.http_read.specs.declared.request.HttpRequest.{HttpRequest}
 use Rattle.http_read.specs.declared.request.HeadFault.{HeadFault}
 use Rattle.http_read.specs.declared.request.HeadFault.TheVariants as fault
@@ -59,9 +59,10 @@ one_head text h k a b = (request_unique text h k [] [] a.reads b.reads).0
 pub one_body : (bytes text body content r s : List ℕ) (n : ℕ) → bytes ≡ text ++ (body ++ r) → bytes ≡ text ++ (content ++ s) → length body ≡ n → length content ≡ n → (body ≡ content) × (r ≡ s)
 one_body bytes text body content r s n a b long wide =
     let behind : body ++ r ≡ content ++ s =
-      sym (drop_at text (body ++ r) (length text) refl) ∙ (ap (drop (length text)) (sym a ∙ b) ∙ drop_at text (content ++ s) (length text) refl) in
-    (sym (take_at body r n long) ∙ (ap (take n) behind ∙ take_at content s n wide),
-     sym (drop_at body r n long) ∙ (ap (drop n) behind ∙ drop_at content s n wide))
+    sym (drop_at text (body ++ r) (length text) refl) ∙ (ap (drop (length text)) (sym a ∙ b) ∙ drop_at text (content ++ s) (length text) refl) in (
+      sym (take_at body r n long) ∙ (ap (take n) behind ∙ take_at content s n wide),
+      sym (drop_at body r n long) ∙ (ap (drop n) behind ∙ drop_at content s n wide),
+    )
 
 one_request : (h : RequestHead) (body content : List ℕ) (x y : HttpRequest) → IsRequest h body x → IsRequest h content y → body ≡ content → x ≡ y
 one_request h body content x y a b same =

@@ -1,13 +1,13 @@
 -- Some item stands at the front of any bytes.
-use Rattle.std.proofs.Common.{◌≡◌, ℕ, ◌+◌, ◌-◌, ◌<◌, ◌≤◌, inl, inr, Bool, true, false, cond, ltb, List, [], ◌∷◌, ◌++◌, length, take, drop, Option, Some, None, codes, refl, sym, ap, subst, ◌∙◌, append_assoc, arith, length-append}
+use Rattle.std.proofs.Common.{◌≡◌, ℕ, ◌+◌, ◌-◌, ◌≤◌, inl, inr, true, false, cond, ltb, List, [], ◌∷◌, ◌++◌, length, take, drop, Option, Some, None, codes, refl, sym, ap, ◌∙◌, append_assoc, arith, length-append}
 use Rattle.std.specs.List.{concat}
 use Rattle.std.specs.Str.Parse.{digits_value}
 use Rattle.std.proofs.lemmas.Bool.{cases_lt}
 use Rattle.std.proofs.lemmas.List.{take-append-drop, length-take-le, drop_at}
 use Rattle.httparse.specs.Grammar.{RequestHead}
-use Rattle.http_read.specs.Lines.{whole_lines, front, IsMark, HasNoMark, IsSpent, HasHead}
+use Rattle.http_read.specs.Lines.{whole_lines, front, HasNoMark, HasHead}
 use Rattle.http_read.specs.Fields.{Line, has_line, values_of, is_number}
-use Rattle.http_read.specs.Head.{IsHead, lines_of, method_of, bad_length, missing_length, first_of_two, refusal_of, refusal, body_length, closes}
+use Rattle.http_read.specs.Head.{lines_of, method_of, bad_length, missing_length, first_of_two, refusal_of, refusal, body_length, closes}
 use Rattle.http_read.specs.Item.{Item, BeginsWith, kept_body}
 use Rattle.http_read.specs.declared.request.Method.{Method}
 use Rattle.http_read.specs.declared.request.Method.TheVariants as method
@@ -66,11 +66,11 @@ no_bytes (b ∷ bytes) h = absurd (omega arith)
 head_front : (bytes text : List ℕ) (lines : ℕ) → HasHead bytes text lines → bytes ≡ text ++ drop (length text) bytes
 head_front bytes text lines h =
     let split : bytes ≡ text ++ (concat (drop (h.mark + 1) (whole_lines bytes)) ++ open_after [] bytes) =
-      lines_after-whole [] bytes
-      ∙ (ap (λ z. concat z ++ open_after [] bytes) (sym (take-append-drop (h.mark + 1) (whole_lines bytes)))
-      ∙ (ap (λ z. z ++ open_after [] bytes) (concat-append (take (h.mark + 1) (whole_lines bytes)) (drop (h.mark + 1) (whole_lines bytes)))
-      ∙ (append_assoc (front (h.mark + 1) bytes) (concat (drop (h.mark + 1) (whole_lines bytes))) (open_after [] bytes)
-      ∙ ap (λ z. z ++ (concat (drop (h.mark + 1) (whole_lines bytes)) ++ open_after [] bytes)) (sym h.text_is)))) in
+    lines_after-whole [] bytes
+    ∙ (ap (λ z. concat z ++ open_after [] bytes) (sym (take-append-drop (h.mark + 1) (whole_lines bytes)))
+    ∙ (ap (λ z. z ++ open_after [] bytes) (concat-append (take (h.mark + 1) (whole_lines bytes)) (drop (h.mark + 1) (whole_lines bytes)))
+    ∙ (append_assoc (front (h.mark + 1) bytes) (concat (drop (h.mark + 1) (whole_lines bytes))) (open_after [] bytes)
+    ∙ ap (λ z. z ++ (concat (drop (h.mark + 1) (whole_lines bytes)) ++ open_after [] bytes)) (sym h.text_is)))) in
     split ∙ ap (λ z. text ++ z) (sym (ap (drop (length text)) split ∙ drop_at text (concat (drop (h.mark + 1) (whole_lines bytes)) ++ open_after [] bytes) (length text) refl))
 
 -- a head of the grammar at the front is refused, cut short or a request
@@ -90,8 +90,8 @@ with_head bytes text h i none = by_refusal (refusal h) refl (refusal_checks (met
     by_length e = elim (cases_lt (length bytes) (length text + n)) [
       | inl short ↦ none next.CutShort [] (inr (text, h, i, e, short))
       | inr long ↦
-        let size : n ≤ length rest = omega (arith, ap length whole, length-append text rest) in
-        none (next.Request (record { method = method_of h.method; target = h.target; close = closes h; body = kept_body (method_of h.method) (take n rest) })) (drop n rest)
+          let size : n ≤ length rest = omega (arith, ap length whole, length-append text rest) in
+          none (next.Request (record { method = method_of h.method; target = h.target; close = closes h; body = kept_body (method_of h.method) (take n rest) })) (drop n rest)
           (text, h, take n rest, i, e, length-take-le n rest size, whole ∙ ap (λ z. text ++ z) (sym (take-append-drop n rest)), record { method = refl; target = refl; close = refl; body = refl })
     ]
 

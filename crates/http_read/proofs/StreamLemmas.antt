@@ -1,10 +1,10 @@
 -- What stands at the front of a stream, from what is held of it.
-use Rattle.std.proofs.Common.{◌≡◌, ℕ, ◌+◌, ◌<◌, ◌≤◌, ◌⊎◌, inl, inr, List, [], ◌++◌, length, take, drop, min, Option, Some, None, sym, ap, subst, ◌∙◌, append_assoc, arith, length-append}
+use Rattle.std.proofs.Common.{◌≡◌, ℕ, ◌<◌, ◌≤◌, inl, inr, List, ◌++◌, length, take, drop, min, Option, Some, None, sym, ap, subst, ◌∙◌, append_assoc, arith, length-append}
 use Rattle.std.proofs.lemmas.Bool.{cases_lt}
 use Rattle.std.proofs.lemmas.List.{append-nil, take-append-drop, take_at, drop_at, take_all, drop_all, length-take-le}
 use Rattle.http_read.specs.Lines.{HasNoMark, IsSpent, HasHead}
 use Rattle.http_read.specs.Head.{StartOf}
-use Rattle.http_read.specs.Item.{BeginsWith, RequestAt, EndsInBody, IsRequest, kept_body}
+use Rattle.http_read.specs.Item.{RequestAt, EndsInBody, kept_body}
 use Rattle.http_read.specs.Held.{Stays, KeepsTelling, IsShorter, AsksFor, BodyFollows, Answers}
 use Rattle.http_read.specs.declared.head.Asked.{Asked}
 use Rattle.http_read.specs.declared.head.Start.TheVariants as start

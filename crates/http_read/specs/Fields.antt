@@ -1,5 +1,5 @@
 -- What the header lines of a request say (RFC 9110, sections 5.1 to 5.6, and RFC 9112, sections 6 and 9).
-use Rattle.std.specs.Prelude.{◌≡◌, ℕ, Bool, true, false, Result, Ok, Err, ◌&&◌, List, [], ◌∷◌, map, length, Option, Some, None, if◌then◌else◌, ◌==◌, nat_lt, codes, bytes_eq, flat_map}
+use Rattle.std.specs.Prelude.{◌≡◌, ℕ, Bool, true, false, Result, Ok, Err, ◌&&◌, List, [], ◌∷◌, map, length, Option, Some, None, if◌then◌else◌, ◌==◌, nat_lt, codes, bytes_eq}
 use Rattle.std.specs.List.{list_all, list_any, slice_split}
 use Rattle.std.specs.Char.{is_ascii_digit, to_ascii_lowercase}
 use Rattle.std.specs.Str.Parse.{digits_value}

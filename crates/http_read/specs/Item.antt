@@ -1,5 +1,5 @@
 -- What stands at the front of a stream of requests (RFC 9112, sections 2.1 and 9.3).
-use Rattle.std.specs.Prelude.{◌≡◌, ℕ, ◌+◌, ◌<◌, ◌≤◌, ◌⊎◌, List, [], ◌++◌, length, Option, Some, None}
+use Rattle.std.specs.Prelude.{◌≡◌, ℕ, ◌+◌, ◌<◌, ◌≤◌, ◌⊎◌, List, [], ◌++◌, length, Some, None}
 use Rattle.httparse.specs.Grammar.{RequestHead}
 use Rattle.http_read.specs.Lines.{HasNoMark, IsSpent, HasHead}
 use Rattle.http_read.specs.Head.{IsHead, refusal, body_length, method_of, closes}

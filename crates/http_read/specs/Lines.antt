@@ -3,7 +3,7 @@
 -- That a lone LF ends a line too, and that empty lines may stand before a request line, is RFC 9112, section 2.2.
 -- That the head ends with the first empty line after the request line, whatever the lines between are, and the limits,
 -- are this project's own.
-use Rattle.std.specs.Prelude.{◌≡◌, ℕ, ◌+◌, ◌-◌, ◌<◌, ◌≤◌, ◌⊎◌, Bool, true, false, ◌||◌, List, [], ◌∷◌, ◌++◌, length, take, get_or, if◌then◌else◌, ◌==◌, bytes_eq}
+use Rattle.std.specs.Prelude.{◌≡◌, ℕ, ◌+◌, ◌<◌, ◌≤◌, ◌⊎◌, Bool, true, false, ◌||◌, List, [], ◌∷◌, ◌++◌, length, take, get_or, if◌then◌else◌, ◌==◌, bytes_eq}
 use Rattle.std.specs.List.{concat}
 use Rattle.httparse.specs.Ascii.{line_feed, crlf_bytes}
 

@@ -6,5 +6,4 @@ pub fn one_item()
     ensures some { HasSomeItem }
     ensures item { HasOneItem }
     ensures rest { HasOneRest }
-{
-}
+{}

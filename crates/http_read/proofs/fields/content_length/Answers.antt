@@ -1,8 +1,7 @@
-use Rattle.std.proofs.Common.{◌≡◌, ◌∷◌, ℕ, length, map, codes, true, false, get_or, Option, Some, None, sym, ◌∙◌, subst}
-use Rattle.httparse.specs.Spans.{header_bytes, span_bytes}
+use Rattle.std.proofs.Common.{codes, sym, ◌∙◌}
+use Rattle.httparse.specs.Spans.{header_bytes}
 use Rattle.httparse.specs.declared.spans.HeaderSpan.{HeaderSpan}
-use Rattle.http_read.specs.Fields.{is_named, is_number, is_same, values_of}
-use Rattle.http_read.proofs.FieldLemmas.{SoFar, so_far_next, so_far_second, so_far_bad, so_far_first, is_number_none}
+use Rattle.http_read.proofs.FieldLemmas.{so_far_next, so_far_second, so_far_bad, so_far_first, is_number_none}
 use Rattle.http_read.proofs.fields.content_length.Goals as goal
 use Rattle.http_read.proofs.fields.content_length.Goals.{then-is_same+else-is_some+in-Some, else-is_same}
 

@@ -1,5 +1,4 @@
-use Rattle.std.proofs.Common.{◌≡◌, ◌++◌, take, min, length, ap, subst, sym, ◌∙◌}
-use Rattle.http_read.specs.Held.{Stays}
+use Rattle.std.proofs.Common.{take, min, length, ap, ◌∙◌}
 use Rattle.http_read.proofs.StreamLemmas.{whole_body}
 use Rattle.http_read.proofs.stream.read_body.Goals as goal
 

@@ -1,4 +1,4 @@
-use Rattle.std.proofs.Common.{◌≤◌, length, arith, inl, inr}
+use Rattle.std.proofs.Common.{arith, inl, inr}
 use Rattle.http_read.proofs.ScanLemmas.{head_taken, spent_taken}
 use Rattle.http_read.proofs.scan.Scan.go_on.Goals as goal
 

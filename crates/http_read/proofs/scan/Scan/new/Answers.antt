@@ -1,4 +1,4 @@
-use Rattle.std.proofs.Common.{arith, refl, sym}
+use Rattle.std.proofs.Common.{arith, refl}
 use Rattle.std.proofs.lemmas.Bool.{false≢true}
 use Rattle.http_read.specs.Lines.{lines_after}
 use Rattle.http_read.proofs.scan.Scan.new.Goals as goal
