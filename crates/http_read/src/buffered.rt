@@ -40,14 +40,14 @@ pub enum Filled {
 
 impl Buffer {
     /// An empty buffer, with room for all that it ever holds.
-    pub fn new(alloc: Global) -> Result<Buffer, Memory>
+    pub(crate) fn new(alloc: Global) -> Result<Buffer, Memory>
         ensures { IfOk result (λ b. b ≡ []) }
     {
         let bytes = Vec::with_capacity(alloc, HEAD_BYTES + PIECE)?;
         Ok(Buffer { bytes })
     }
 
-    pub fn as_slice(&self) -> &[u8]
+    pub(crate) fn as_slice(&self) -> &[u8]
         ensures value { result.now ≡ self.now }
         ensures room { length self.now ≤ 24576 }
     {
@@ -55,7 +55,7 @@ impl Buffer {
     }
 
     /// Takes bytes off the front.
-    pub fn take_front(&mut self, count: usize)
+    pub(crate) fn take_front(&mut self, count: usize)
         requires { count ≤ length self.old }
         ensures rest { self.new ≡ drop count self.old }
         ensures room { length self.new ≤ 24576 }
@@ -66,7 +66,7 @@ impl Buffer {
     }
 
     /// Reads once more.
-    pub fn fill<S: Source>(&mut self, source: &mut S) -> Filled
+    pub(crate) fn fill<S: Source>(&mut self, source: &mut S) -> Filled
         requires { length self.old < 16384 }
         ensures bytes { Fills (S.left source.old) self.old (S.left source.new) self.new result }
         ensures cause { FillsByCount (S.faults source.old) (S.faults source.new) result }
