@@ -3,3 +3,4 @@ pub mod Faults
 pub mod Folder
 pub mod Number
 pub mod Sink
+pub mod Source

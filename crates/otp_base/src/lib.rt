@@ -1,6 +1,6 @@
-//! What the program stands on: the outside as traits (a folder of files, a sink of bytes), each with
-//! forms in memory and on the machine, and the small types over `Vec` and `String` that contracts see
-//! as lists.
+//! What the program stands on: the outside as traits (a folder of files, a source and a sink of bytes),
+//! each with forms in memory and on the machine, and the small types over `Vec` and `String` that
+//! contracts see as lists.
 //!
 //! A trait of the outside counts its faults. Each call that can fail answers so only where the count
 //! of its object rose, and an object may tell its contents, from which each other answer follows.
@@ -14,8 +14,11 @@ mod list;
 mod memory;
 mod memory_folder;
 mod memory_sink;
+mod memory_source;
 mod sink;
+mod source;
 mod std_sink;
+mod std_source;
 mod text;
 
 pub use adding::push_some;
@@ -26,8 +29,11 @@ pub use list::List;
 pub use memory::Memory;
 pub use memory_folder::{MemoryFolder, SteadyFolder};
 pub use memory_sink::{MemorySink, SteadySink};
+pub use memory_source::{MemorySource, SteadySource};
 pub use sink::{Put, Sink, WriteFault, put_all};
+pub use source::{Got, Source};
 pub use std_sink::StdSink;
+pub use std_source::StdSource;
 pub use text::Text;
 
 #[cfg(test)]

@@ -1,6 +1,7 @@
 use crate::{
-    DiskFolder, FileEntry, FileFault, FileGot, Folder, List, MemoryFolder, MemorySink, Sink,
-    StdSink, SteadyFolder, SteadySink, Text, WriteFault, push_some, put_all, read_file,
+    DiskFolder, FileEntry, FileFault, FileGot, Folder, Got, List, MemoryFolder, MemorySink,
+    MemorySource, Sink, Source, StdSink, StdSource, SteadyFolder, SteadySink, SteadySource, Text,
+    WriteFault, push_some, put_all, read_file,
 };
 use std::alloc::Global;
 use std::test::Fail;
@@ -61,6 +62,35 @@ fn puts_all(rt: HostRuntime) -> Result<(), Fail> {
     assert_eq!(rt; put_all(&mut sink, b"more"), Err(WriteFault));
     assert_eq!(rt; sink.bytes.as_slice(), b"hellomo".as_slice());
     assert_eq!(rt; put_all(&mut SteadySink, b"more"), Ok(()));
+    Ok(())
+}
+
+#[test]
+fn gives_bytes(rt: HostRuntime) -> Result<(), Fail> {
+    let alloc = rt.alloc();
+    let bytes = List::from_vec(Vec::from_slice(alloc, b"hello")?);
+    let mut source = MemorySource::new(bytes, numbers(alloc, &[2])?, 3);
+    let mut room = [0u8; 4];
+    assert_eq!(rt; source.read(&mut room), Got::Bytes(3));
+    assert_eq!(rt; room.as_slice(), b"hel\0".as_slice());
+    assert_eq!(rt; source.read(&mut room), Got::Failed);
+    assert_eq!(rt; source.faults, 1);
+    assert_eq!(rt; source.read(&mut room), Got::Bytes(2));
+    assert_eq!(rt; room.as_slice(), b"lol\0".as_slice());
+    assert_eq!(rt; source.read(&mut room), Got::End);
+    let bytes = List::from_vec(Vec::from_slice(alloc, b"more")?);
+    let mut steady = SteadySource::new(bytes);
+    assert_eq!(rt; steady.read(&mut room), Got::Bytes(4));
+    assert_eq!(rt; room.as_slice(), b"more".as_slice());
+    assert_eq!(rt; steady.read(&mut room), Got::End);
+    let mut reader = StdSource {
+        reader: b"to".as_slice(),
+        faults: 0,
+    };
+    assert_eq!(rt; reader.read(&mut room), Got::Bytes(2));
+    assert_eq!(rt; room.as_slice(), b"tore".as_slice());
+    assert_eq!(rt; reader.read(&mut room), Got::End);
+    assert_eq!(rt; reader.faults, 0);
     Ok(())
 }
 

@@ -1,0 +1,7 @@
+pub mod FieldLemmas
+pub mod LineLemmas
+pub mod NumberLemmas
+pub mod OneItemLemmas
+pub mod ScanLemmas
+pub mod SomeItemLemmas
+pub mod StreamLemmas
