@@ -5,7 +5,11 @@ use Rattle.std.specs.Global.{Vec}
 use Rattle.pb_wire.specs.declared.field.Field.{Field}
 use Rattle.pb_wire.specs.declared.field.WireFault.{WireFault}
 use Rattle.pb_wire.specs.declared.field.WireFault.TheVariants as fault
-use Rattle.pb_wire.specs.Wire.{Spells, WrongField, IsFirstFault}
+use Rattle.pb_wire.specs.Wire.{Spells, IsValue, WrongField, IsFirstFault, LiesIn, LiesWithin}
+use Rattle.pb_wire.specs.declared.field.FieldValue.{FieldValue}
+use Rattle.pb_wire.specs.declared.field.FieldValue.TheVariants as value
+use Rattle.std.specs.List.{All, AllByRecursion}
+use Rattle.std.proofs.lemmas.List.Elements.{All-from_recursion}
 use Rattle.pb_wire.specs.Cutting.{◌>>=◌, Gives, OrMemory, field_at, cut_in, cut}
 use Rattle.pb_wire.proofs.Steps.{bind_ok, bind_err, ok_is}
 use Rattle.pb_wire.proofs.FieldLaws.{TakesField, field_takes, field_again, field_fails, field_fails_again, field_shorter, front_length}
@@ -123,3 +127,32 @@ is_fault at bytes (Err (fault.LongVarint a)) given = cut_fails at bytes (fault.L
 is_fault at bytes (Err (fault.Group a)) given = cut_fails at bytes (fault.Group a) given
 is_fault at bytes (Err (fault.ZeroField a)) given = cut_fails at bytes (fault.ZeroField a) given
 is_fault at bytes (Err fault.Memory) given = tt
+
+part_lies : (low high at : ℕ) (v : FieldValue) (bytes : List ℕ) → low ≤ at → at + length bytes ≤ high → IsValue at v bytes → LiesIn low high v
+part_lies low high at (value.Varint n) bytes p q h = tt
+part_lies low high at (value.Eight n) bytes p q h = tt
+part_lies low high at (value.Bytes from to) bytes p q h =
+    let length_is : length bytes ≡ length h.len + length h.text = ap length h.parts ∙ length-append h.len h.text in
+    let starts = h.starts in
+    let ends = h.ends in
+    (omega arith, omega arith, omega arith)
+part_lies low high at (value.Four n) bytes p q h = tt
+
+lies : (fs : List Field) (low high at : ℕ) (bytes : List ℕ) → low ≤ at → at + length bytes ≤ high → Spells at fs bytes → AllByRecursion (LiesWithin low high) fs
+lies [] low high at bytes p q h = tt
+lies (f ∷ fs) low high at bytes p q h =
+    let front_is = h.3.parts in
+    let length_is : length bytes ≡ length h.0 + length h.1 = ap length h.2 ∙ length-append h.0 h.1 in
+    let front_length_is : length h.0 ≡ length h.3.tag + length h.3.rest = ap length front_is ∙ length-append h.3.tag h.3.rest in
+    let value_low : low ≤ at + length h.3.tag = omega arith in
+    let value_high : at + length h.3.tag + length h.3.rest ≤ high = omega arith in
+    let rest_low : low ≤ at + length h.0 = omega arith in
+    let rest_high : at + length h.0 + length h.1 ≤ high = omega arith in
+    (part_lies low high (at + length h.3.tag) f.value h.3.rest value_low value_high h.3.says, lies fs low high (at + length h.0) h.1 rest_low rest_high h.4)
+
+pub is_within : (at : ℕ) (bytes : List ℕ) (r : Result (Vec Field) WireFault) → Gives (λ v. v.items) r (cut at bytes) → IfOk r (λ v. All (LiesWithin at (at + length bytes)) v.items)
+is_within at bytes (Ok v) given =
+    let low : at ≤ at = omega arith in
+    let high : at + length bytes ≤ at + length bytes = omega arith in
+    All-from_recursion (LiesWithin at (at + length bytes)) v.items (lies v.items at (at + length bytes) at bytes low high (cut_takes at bytes v.items given))
+is_within at bytes (Err e) given = tt

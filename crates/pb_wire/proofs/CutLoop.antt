@@ -23,10 +23,10 @@ cut_enough zero m at (b ∷ bs) p q = absurd (omega arith)
 cut_enough (suc n) zero at (b ∷ bs) p q = absurd (omega arith)
 cut_enough (suc n) (suc m) at (b ∷ bs) p q =
     bind_same (field_at at (b ∷ bs)) (λ f. cut_in n (at + (length (b ∷ bs) - length f.1)) f.1 >>= λ fs. Ok (f.0 ∷ fs)) (λ f. cut_in m (at + (length (b ∷ bs) - length f.1)) f.1 >>= λ fs. Ok (f.0 ∷ fs)) (λ f e.
-        let s = field_shorter at (b ∷ bs) f.0 f.1 e in
-        let p1 : length f.1 ≤ n = omega arith in
-        let q1 : length f.1 ≤ m = omega arith in
-        ap (λ z. z >>= λ fs. Ok (f.0 ∷ fs)) (cut_enough n m (at + (length (b ∷ bs) - length f.1)) f.1 p1 q1))
+    let s = field_shorter at (b ∷ bs) f.0 f.1 e in
+    let p1 : length f.1 ≤ n = omega arith in
+    let q1 : length f.1 ≤ m = omega arith in
+    ap (λ z. z >>= λ fs. Ok (f.0 ∷ fs)) (cut_enough n m (at + (length (b ∷ bs) - length f.1)) f.1 p1 q1))
 
 -- one field, and then the rest
 pub cut_step : (n at : ℕ) (bytes : List ℕ) (f : Field) (rest : List ℕ) → length bytes ≤ n → field_at at bytes ≡ Ok (f, rest)

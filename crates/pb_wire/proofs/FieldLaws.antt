@@ -88,7 +88,7 @@ field_again at f front rest h =
     let here : length (h.tag ++ (h.rest ++ rest)) - length (h.rest ++ rest) ≡ length h.tag = front_length (h.tag ++ (h.rest ++ rest)) h.tag (h.rest ++ rest) refl in
     let positive : f.number ≡ 0 → ⊥ = let p = h.positive in λ z. omega arith in
     ap (λ z. varint_at at z >>= λ key. field_from at (at + (length z - length key.1)) key.0 key.1) parts
-      ∙ rw (varint_again at (8 * f.number + kind) h.tag (h.rest ++ rest) h.key, here, key_number f.number kind below, key_kind f.number kind below, eqb_not f.number 0 positive, value_again f.value at (at + length h.tag) h.rest rest h.says) (field_is f at rest h.starts)
+    ∙ rw (varint_again at (8 * f.number + kind) h.tag (h.rest ++ rest) h.key, here, key_number f.number kind below, key_kind f.number kind below, eqb_not f.number 0 positive, value_again f.value at (at + length h.tag) h.rest rest h.says) (field_is f at rest h.starts)
 
 pub field_fails : (at : ℕ) (bytes : List ℕ) (e : WireFault) → field_at at bytes ≡ Err e → WrongField at bytes e
 unfolding field_at
@@ -104,11 +104,11 @@ field_fails at bytes e h = elim (bind_err (varint_at at bytes) (λ key. field_fr
             let zero_is : key / 8 ≡ 0 = eqb-true _ _ c.0 in
             wrong_number t.front rest key t.parts (omega arith) t.is (sym (err_is (fault.ZeroField at) e c.1))
         | inr c ↦ elim (bind_err (value_at (key % 8) at here rest) (λ v. Ok (made at key v)) e c.1) [
-            | inl u ↦
-                let not_zero : key / 8 ≡ 0 → ⊥ = eqb-false _ _ c.0 in
-                wrong_value t.front rest (key / 8) (key % 8) t.parts (omega arith) (grind arith) (subst (IsVarint t.front) (split_key key (key % 8) refl) t.is) (value_fails (key % 8) at here rest e u)
-            | inr u ↦ absurd (let f = u.2 in cc)
-          ]
+          | inl u ↦
+              let not_zero : key / 8 ≡ 0 → ⊥ = eqb-false _ _ c.0 in
+              wrong_value t.front rest (key / 8) (key % 8) t.parts (omega arith) (grind arith) (subst (IsVarint t.front) (split_key key (key % 8) refl) t.is) (value_fails (key % 8) at here rest e u)
+          | inr u ↦ absurd (let f = u.2 in cc)
+        ]
       ]
 ]
 
@@ -121,7 +121,7 @@ field_fails_again at bytes e (wrong_number tag rest kind parts below h f) =
 field_fails_again at bytes e (wrong_value tag rest number kind parts below positive h w) =
     let some : number ≡ 0 → ⊥ = λ z. omega arith in
     ap (λ z. varint_at at z >>= λ key. field_from at (at + (length z - length key.1)) key.0 key.1) parts
-      ∙ rw (varint_again at (8 * number + kind) tag rest h, key_number number kind below, key_kind number kind below, eqb_not number 0 some, value_fails_again kind at (at + (length (tag ++ rest) - length rest)) rest e w) refl
+    ∙ rw (varint_again at (8 * number + kind) tag rest h, key_number number kind below, key_kind number kind below, eqb_not number 0 some, value_fails_again kind at (at + (length (tag ++ rest) - length rest)) rest e w) refl
 
 -- a field takes a byte at least
 pub field_shorter : (at : ℕ) (bytes : List ℕ) (f : Field) (rest : List ℕ) → field_at at bytes ≡ Ok (f, rest) → length rest < length bytes

@@ -80,15 +80,15 @@ value_takes kind at here bytes x e = elim (chosen (eqb kind 0) (varint_at at byt
       let t = varint_takes at bytes s.0 s.1 in
       subst (TakesValue kind here bytes) (ok_is (value.Varint s.0.0, s.0.1) x s.2) (record { front = t.front; parts = t.parts; is = t.is; kind_is = sym (eqb-true kind 0 h.0) })
   | inr h ↦ elim (chosen (eqb kind 1) (eight_at at bytes) _ (Ok x) h.1) [
-      | inl k ↦ subst (λ z. TakesValue z here bytes x) (sym (eqb-true kind 1 k.0)) (eight_takes at here bytes x k.1)
-      | inr k ↦ elim (chosen (eqb kind 2) (part_at at here bytes) _ (Ok x) k.1) [
-          | inl l ↦ subst (λ z. TakesValue z here bytes x) (sym (eqb-true kind 2 l.0)) (part_takes at here bytes x l.1)
-          | inr l ↦ elim (chosen (eqb kind 5) (four_at at bytes) _ (Ok x) l.1) [
-              | inl m ↦ subst (λ z. TakesValue z here bytes x) (sym (eqb-true kind 5 m.0)) (four_takes at here bytes x m.1)
-              | inr m ↦ absurd (let f = m.1 in cc)
-            ]
-        ]
+    | inl k ↦ subst (λ z. TakesValue z here bytes x) (sym (eqb-true kind 1 k.0)) (eight_takes at here bytes x k.1)
+    | inr k ↦ elim (chosen (eqb kind 2) (part_at at here bytes) _ (Ok x) k.1) [
+      | inl l ↦ subst (λ z. TakesValue z here bytes x) (sym (eqb-true kind 2 l.0)) (part_takes at here bytes x l.1)
+      | inr l ↦ elim (chosen (eqb kind 5) (four_at at bytes) _ (Ok x) l.1) [
+        | inl m ↦ subst (λ z. TakesValue z here bytes x) (sym (eqb-true kind 5 m.0)) (four_takes at here bytes x m.1)
+        | inr m ↦ absurd (let f = m.1 in cc)
+      ]
     ]
+  ]
 ]
 
 abbrev part_ok : ℕ → ℕ → List ℕ → Result (FieldValue × List ℕ) WireFault
@@ -107,7 +107,7 @@ part_again at here from to front rest h =
     let start : here + (length bytes - length (h.text ++ rest)) ≡ from = let e = length-append h.len (h.text ++ rest) in let s = h.starts in omega arith in
     let end : here + (length bytes - length (h.text ++ rest)) + n ≡ to = let s = h.ends in omega arith in
     ap (λ z. varint_at at z >>= λ n. part_from at here z n.0 n.1) parts
-      ∙ rw (varint_again at n h.len (h.text ++ rest) h.long, long, drop_at h.text rest n refl) (ap2 _ _ _ _ rest start end)
+    ∙ rw (varint_again at n h.len (h.text ++ rest) h.long, long, drop_at h.text rest n refl) (ap2 _ _ _ _ rest start end)
 
 pub value_again : (v : FieldValue) (at here : ℕ) (front rest : List ℕ) → IsValue here v front → value_at (wire_type v) at here (front ++ rest) ≡ Ok (v, rest)
 unfolding value_at eight_at four_at
@@ -150,19 +150,19 @@ pub value_fails : (kind at here : ℕ) (bytes : List ℕ) (e : WireFault) → va
 unfolding value_at
 value_fails kind at here bytes e x = elim (chosen (eqb kind 0) (varint_at at bytes >>= λ n. Ok (value.Varint n.0, n.1)) _ (Err e) x) [
   | inl h ↦ elim (bind_err (varint_at at bytes) (λ n. Ok (value.Varint n.0, n.1)) e h.1) [
-      | inl s ↦ wrong_varint (eqb-true kind 0 h.0) (varint_fails at bytes e s)
-      | inr s ↦ absurd (let f = s.2 in cc)
-    ]
+    | inl s ↦ wrong_varint (eqb-true kind 0 h.0) (varint_fails at bytes e s)
+    | inr s ↦ absurd (let f = s.2 in cc)
+  ]
   | inr h ↦ elim (chosen (eqb kind 1) (eight_at at bytes) _ (Err e) h.1) [
-      | inl k ↦ eight_fails kind at bytes e (eqb-true kind 1 k.0) k.1
-      | inr k ↦ elim (chosen (eqb kind 2) (part_at at here bytes) _ (Err e) k.1) [
-          | inl l ↦ part_fails kind at here bytes e (eqb-true kind 2 l.0) l.1
-          | inr l ↦ elim (chosen (eqb kind 5) (four_at at bytes) _ (Err e) l.1) [
-              | inl m ↦ four_fails kind at bytes e (eqb-true kind 5 m.0) m.1
-              | inr m ↦ wrong_kind (eqb-false kind 0 h.0) (eqb-false kind 1 k.0) (eqb-false kind 2 l.0) (eqb-false kind 5 m.0) (sym (err_is (fault.Group at) e m.1))
-            ]
-        ]
+    | inl k ↦ eight_fails kind at bytes e (eqb-true kind 1 k.0) k.1
+    | inr k ↦ elim (chosen (eqb kind 2) (part_at at here bytes) _ (Err e) k.1) [
+      | inl l ↦ part_fails kind at here bytes e (eqb-true kind 2 l.0) l.1
+      | inr l ↦ elim (chosen (eqb kind 5) (four_at at bytes) _ (Err e) l.1) [
+        | inl m ↦ four_fails kind at bytes e (eqb-true kind 5 m.0) m.1
+        | inr m ↦ wrong_kind (eqb-false kind 0 h.0) (eqb-false kind 1 k.0) (eqb-false kind 2 l.0) (eqb-false kind 5 m.0) (sym (err_is (fault.Group at) e m.1))
+      ]
     ]
+  ]
 ]
 
 short_again : (at here : ℕ) (bytes : List ℕ) → IsShort bytes → part_at at here bytes ≡ Err (fault.Cut at)

@@ -114,3 +114,13 @@ pub record IsFirstFault (at : ℕ) (bytes : List ℕ) (e : WireFault) : Type 0 w
   pub spelt : Spells at before front
   pub more : 0 < length rest
   pub wrong : WrongField (at + length front) rest e
+
+-- the bytes of a value, where it has a range, lie between these offsets
+abbrev pub LiesIn : ℕ → ℕ → FieldValue → Type 0
+LiesIn low high (value.Varint n) = Unit {0}
+LiesIn low high (value.Eight n) = Unit {0}
+LiesIn low high (value.Bytes from to) = (low ≤ from) × (from ≤ to) × (to ≤ high)
+LiesIn low high (value.Four n) = Unit {0}
+
+abbrev pub LiesWithin : ℕ → ℕ → Field → Type 0
+LiesWithin low high f = LiesIn low high f.value

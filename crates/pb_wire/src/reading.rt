@@ -1,5 +1,6 @@
 ghost use Rattle.std.specs.Prelude.{◌≡◌, ◌+◌, ◌<◌, ◌≤◌, ◌^◌, List, length, IfOk, IfErr, Ok, Err};
-ghost use Rattle.pb_wire.specs.Wire.{Spells, IsFirstFault};
+ghost use Rattle.pb_wire.specs.Wire.{Spells, IsFirstFault, LiesWithin};
+ghost use Rattle.std.specs.List.{All};
 ghost use Rattle.pb_wire.specs.Cutting.{Is, Gives, OrMemory, varint_at, eight_at, four_at, part_at, value_at, field_at, cut};
 ghost use Rattle.pb_wire.specs.declared.field.Field.{Field};
 ghost use Rattle.pb_wire.specs.declared.field.WireFault.{WireFault};
@@ -136,6 +137,8 @@ pub fn fields_at(alloc: Global, at: usize, bytes: &[u8]) -> Result<Vec<Field>, W
     ensures fault { IfErr result (OrMemory (IsFirstFault at bytes.now)) }
     // The first fault is answered, unless memory runs out.
     ensures first { (e : WireFault) → IsFirstFault at bytes.now e → Gives (λ v. v.items) result (Err e) }
+    // Ranges lie within the bytes.
+    ensures within { IfOk result (λ v. All (LiesWithin at (at + length bytes.now)) v.items) }
     // The same by the function that cuts lists.
     ensures exact { Gives (λ v. v.items) result (cut at bytes.now) }
 {

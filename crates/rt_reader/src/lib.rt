@@ -1,13 +1,14 @@
-// A library with one function.
+//! GTFS Realtime feeds with trip updates, read from the bytes of a FeedMessage: the message, or the first
+//! fault with its offset.
 #![tactic(auto)]
 
-ghost use Rattle.std.specs.Prelude.{◌≡◌};
-ghost use Rattle.rt_reader.specs.Echo.{echo_of};
+mod draft;
+mod event;
+mod fault;
+mod feed;
+mod reading;
+mod slots;
+mod trip;
 
-// The `ensures` clause is the contract: what `echo` returns is `echo_of` of its argument, a definition
-// in `specs/Echo.antt`, which a caller's clause can cite too.
-pub fn echo(x: usize) -> usize
-    ensures { result ≡ echo_of x }
-{
-    x
-}
+pub use fault::MessageFault;
+pub use reading::read_message;

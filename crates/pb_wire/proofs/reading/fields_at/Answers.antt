@@ -1,5 +1,5 @@
 use Rattle.std.proofs.Common.{sym, rules}
-use Rattle.pb_wire.proofs.CutLaws.{cut_again, cut_fails_again, is_found, is_fault}
+use Rattle.pb_wire.proofs.CutLaws.{cut_again, cut_fails_again, is_found, is_fault, is_within}
 use Rattle.pb_wire.proofs.reading.fields_at.Goals as goal
 
 pub returns-clause-found : goal.returns-clause-found
@@ -13,3 +13,6 @@ returns-clause-fault c = is_fault c.args.at c.args.bytes.now c.all.result c.all.
 
 pub returns-clause-first : goal.returns-clause-first
 returns-clause-first c = λ e h. rw (cut_fails_again c.args.at c.args.bytes.now e h) at c.all.ensures
+
+pub returns-clause-within : goal.returns-clause-within
+returns-clause-within c = is_within c.args.at c.args.bytes.now c.all.result c.all.ensures
