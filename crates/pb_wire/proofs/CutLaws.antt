@@ -1,5 +1,5 @@
 -- The two laws: what is cut is spelt so, and what is spelt so is cut; and so for the first fault.
-use Rattle.std.proofs.Common.{◌≡◌, ℕ, zero, suc, ◌-◌, ◌+◌, ◌≤◌, ◌<◌, List, [], ◌∷◌, ◌++◌, length, Result, Ok, Err, refl, sym, ap, subst, ◌∙◌, ◌⊎◌, inl, inr, length-append, append_assoc, arith}
+use Rattle.std.proofs.Common.{◌≡◌, ℕ, zero, suc, ◌-◌, ◌+◌, ◌≤◌, ◌<◌, List, [], ◌∷◌, ◌++◌, length, Result, Ok, Err, refl, sym, ap, subst, ◌∙◌, inl, inr, length-append, append_assoc, arith}
 use Rattle.std.specs.Prelude.{IfOk, IfErr}
 use Rattle.std.specs.Global.{Vec}
 use Rattle.pb_wire.specs.declared.field.Field.{Field}
@@ -12,7 +12,7 @@ use Rattle.std.specs.List.{All, AllByRecursion}
 use Rattle.std.proofs.lemmas.List.Elements.{All-from_recursion}
 use Rattle.pb_wire.specs.Cutting.{◌>>=◌, Gives, OrMemory, field_at, cut_in, cut}
 use Rattle.pb_wire.proofs.Steps.{bind_ok, bind_err, ok_is}
-use Rattle.pb_wire.proofs.FieldLaws.{TakesField, field_takes, field_again, field_fails, field_fails_again, field_shorter, front_length}
+use Rattle.pb_wire.proofs.FieldLaws.{field_takes, field_again, field_fails, field_fails_again, field_shorter, front_length}
 use Rattle.pb_wire.proofs.CutLoop.{cut_step, cut_stops}
 
 takes : (n at : ℕ) (bytes : List ℕ) (fs : List Field) → length bytes ≤ n → cut_in n at bytes ≡ Ok fs → Spells at fs bytes

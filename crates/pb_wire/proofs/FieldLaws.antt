@@ -1,5 +1,5 @@
 -- A field that is read is spelt so, one that is spelt is read, and so for its faults.
-use Rattle.std.proofs.Common.{◌≡◌, ℕ, ◌-◌, ◌+◌, ◌*◌, ◌/◌, ◌%◌, ◌≤◌, ◌<◌, true, false, cond, eqb, List, [], ◌∷◌, ◌++◌, length, Result, Ok, Err, refl, sym, ap, subst, ◌∙◌, ◌⊎◌, inl, inr, length-append, append_assoc, arith}
+use Rattle.std.proofs.Common.{◌≡◌, ℕ, ◌-◌, ◌+◌, ◌*◌, ◌/◌, ◌%◌, ◌<◌, eqb, List, ◌++◌, length, Result, Ok, Err, refl, sym, ap, subst, ◌∙◌, inl, inr, length-append, append_assoc, arith}
 use Rattle.std.proofs.lemmas.Bool.{eqb-true, eqb-false}
 use Rattle.pb_wire.specs.declared.field.Field.{Field}
 use Rattle.pb_wire.specs.declared.field.FieldValue.{FieldValue}
@@ -9,8 +9,8 @@ use Rattle.pb_wire.specs.declared.field.WireFault.TheVariants as fault
 use Rattle.pb_wire.specs.Wire.{IsVarint, IsValue, wire_type, IsField, WrongField, wrong_tag, wrong_number, wrong_value}
 use Rattle.pb_wire.specs.Cutting.{◌>>=◌, varint_at, value_at, field_from, field_at}
 use Rattle.pb_wire.proofs.Steps.{bind_ok, bind_err, chosen, ok_is, err_is}
-use Rattle.pb_wire.proofs.VarintLaws.{TakesVarint, varint_takes, varint_again, varint_fails, varint_fails_again, varint_length}
-use Rattle.pb_wire.proofs.ValueLaws.{TakesValue, value_takes, value_again, value_fails, value_fails_again, eqb_not}
+use Rattle.pb_wire.proofs.VarintLaws.{varint_takes, varint_again, varint_fails, varint_fails_again, varint_length}
+use Rattle.pb_wire.proofs.ValueLaws.{value_takes, value_again, value_fails, value_fails_again, eqb_not}
 
 -- what was taken from the front as a field
 pub record TakesField (at : ℕ) (bytes : List ℕ) (x : Field × List ℕ) : Type 0 where

@@ -1,16 +1,16 @@
 -- A value that is read is spelt so, one that is spelt is read, and so for its faults.
-use Rattle.std.proofs.Common.{◌≡◌, ℕ, ◌-◌, ◌+◌, ◌≤◌, ◌<◌, true, false, cond, ltb, eqb, List, [], ◌∷◌, ◌++◌, length, take, drop, Result, Ok, Err, refl, sym, ap, subst, ◌∙◌, ◌⊎◌, inl, inr, length-append, append_assoc, arith}
+use Rattle.std.proofs.Common.{◌≡◌, ℕ, ◌-◌, ◌+◌, ◌≤◌, false, ltb, eqb, List, ◌++◌, length, take, drop, Result, Ok, Err, refl, sym, ap, subst, ◌∙◌, inl, inr, length-append, append_assoc, arith}
 use Rattle.std.proofs.lemmas.Bool.{lt-ltb, le-ltb, ltb-true, ltb-false, eqb-true, eqb-false}
-use Rattle.std.proofs.lemmas.List.{take_at, drop_at, take-append-drop, length-take, length-drop}
+use Rattle.std.proofs.lemmas.List.{take_at, drop_at, take-append-drop, length-take}
 use Rattle.std.specs.Int.{w32, w64, from_le_bytes}
 use Rattle.pb_wire.specs.declared.field.FieldValue.{FieldValue}
 use Rattle.pb_wire.specs.declared.field.FieldValue.TheVariants as value
 use Rattle.pb_wire.specs.declared.field.WireFault.{WireFault}
 use Rattle.pb_wire.specs.declared.field.WireFault.TheVariants as fault
-use Rattle.pb_wire.specs.Wire.{IsVarint, IsPart, IsValue, wire_type, WrongVarint, IsShort, WrongValue, wrong_varint, wrong_eight, wrong_length, wrong_part, wrong_four, wrong_kind}
+use Rattle.pb_wire.specs.Wire.{IsVarint, IsPart, IsValue, wire_type, IsShort, WrongValue, wrong_varint, wrong_eight, wrong_length, wrong_part, wrong_four, wrong_kind}
 use Rattle.pb_wire.specs.Cutting.{◌>>=◌, varint_at, eight_at, four_at, part_from, part_at, value_at}
 use Rattle.pb_wire.proofs.Steps.{bind_ok, bind_err, chosen, ok_is, err_is}
-use Rattle.pb_wire.proofs.VarintLaws.{TakesVarint, varint_takes, varint_again, varint_fails, varint_fails_again}
+use Rattle.pb_wire.proofs.VarintLaws.{varint_takes, varint_again, varint_fails, varint_fails_again}
 
 -- what was taken from the front as a value of a wire type
 pub record TakesValue (kind here : ℕ) (bytes : List ℕ) (x : FieldValue × List ℕ) : Type 0 where

@@ -1,10 +1,10 @@
 -- A varint that is read is spelt so, one that is spelt is read, and so for its faults.
-use Rattle.std.proofs.Common.{◌≡◌, ℕ, zero, suc, ◌-◌, ◌+◌, ◌*◌, ◌%◌, ◌^◌, ◌≤◌, ◌<◌, true, false, List, [], ◌∷◌, ◌++◌, length, Result, Ok, Err, refl, sym, ap, subst, ◌∙◌, ◌⊎◌, inl, inr, length-append, arith}
+use Rattle.std.proofs.Common.{◌≡◌, ℕ, zero, suc, ◌-◌, ◌+◌, ◌*◌, ◌%◌, ◌^◌, ◌≤◌, ◌<◌, List, [], ◌∷◌, ◌++◌, length, Ok, Err, refl, sym, ap, subst, ◌∙◌, inl, inr, length-append, arith}
 use Rattle.std.proofs.lemmas.Bool.{lt-ltb, le-ltb, ltb-true, ltb-false}
 use Rattle.std.specs.Prelude.{nat_lt}
 use Rattle.pb_wire.specs.declared.field.WireFault.{WireFault}
 use Rattle.pb_wire.specs.declared.field.WireFault.TheVariants as fault
-use Rattle.pb_wire.specs.Wire.{StandsFor, IsVarint, GoOn, IsLong, WrongVarint}
+use Rattle.pb_wire.specs.Wire.{StandsFor, IsVarint, GoOn, WrongVarint}
 use Rattle.pb_wire.specs.Cutting.{◌>>=◌, varint_in, varint_at}
 use Rattle.pb_wire.proofs.Steps.{bind_ok, bind_err, chosen, ok_is, err_is}
 

@@ -6,7 +6,7 @@ mod field;
 mod reading;
 
 pub use field::{Field, FieldValue, WireFault};
-pub use reading::{fields, fields_at};
+pub use reading::{cut_is_spelling, fields, fields_at};
 
 #[cfg(test)]
 mod tests;

@@ -1,4 +1,4 @@
-ghost use Rattle.std.specs.Prelude.{◌≡◌, ◌+◌, ◌<◌, ◌≤◌, ◌^◌, List, length, IfOk, IfErr, Ok, Err};
+ghost use Rattle.std.specs.Prelude.{◌≡◌, ◌↔◌, ℕ, ◌+◌, ◌<◌, ◌≤◌, ◌^◌, List, length, IfOk, IfErr, Ok, Err};
 ghost use Rattle.pb_wire.specs.Wire.{Spells, IsFirstFault, LiesWithin};
 ghost use Rattle.std.specs.List.{All};
 ghost use Rattle.pb_wire.specs.Cutting.{Is, Gives, OrMemory, varint_at, eight_at, four_at, part_at, value_at, field_at, cut};
@@ -158,3 +158,11 @@ pub fn fields(alloc: Global, bytes: &[u8]) -> Result<Vec<Field>, WireFault>
 {
     fields_at(alloc, 0, bytes)
 }
+
+/// A law about the definitions: cutting a list of bytes gives exactly the fields that spell it, and else
+/// exactly its first fault. So bytes are spelt by at most one list of fields, and have a fault exactly
+/// where they are spelt by none.
+pub fn cut_is_spelling()
+    ensures found { (at : ℕ) (bytes : List ℕ) (fs : List Field) → (cut at bytes ≡ Ok fs) ↔ Spells at fs bytes }
+    ensures fault { (at : ℕ) (bytes : List ℕ) (e : WireFault) → (cut at bytes ≡ Err e) ↔ IsFirstFault at bytes e }
+{}

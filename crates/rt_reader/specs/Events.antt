@@ -6,15 +6,12 @@ use Rattle.otp_model.specs.declared.message.StopUpdate.{StopUpdate}
 use Rattle.pb_wire.specs.declared.field.Field.{Field}
 use Rattle.rt_reader.specs.declared.fault.MessageFault.{MessageFault}
 use Rattle.rt_reader.specs.Fields.{Part, Reading, skipped, number, words, one, many, bytes_in, number_in, part_in, later}
+use Rattle.rt_reader.specs.Tables.{event_table}
 use Rattle.rt_reader.specs.Walk.{part_wrong, part_value}
 
 -- 64-bit two's complement
 abbrev pub signed : ℕ → ℤ
 signed n = cast_signed w64 n
-
--- delay 1, time 2
-abbrev pub event_table : ℕ → Reading
-event_table n = if n == 1 then number else if n == 2 then number else skipped
 
 abbrev pub event_seen : Event → ℕ → Bool
 event_seen e n = false
@@ -25,21 +22,11 @@ event_blank = record { delay = None; time = None }
 abbrev pub event_add : List ℕ → Event → Field → Event
 event_add body e f = record { delay = later e.delay (option_map signed (number_in 1 f)); time = later e.time (option_map signed (number_in 2 f)) }
 
-abbrev pub event_wrong : List ℕ → Part → Option MessageFault
-event_wrong body p = part_wrong event_table event_seen event_add event_blank body p
+abbrev pub event_walked : List ℕ → Part → Option MessageFault
+event_walked body p = part_wrong event_table event_seen event_add event_blank body p
 
 abbrev pub event_value : List ℕ → Part → Event
 event_value body p = part_value event_add event_blank body p
-
--- stop_sequence 1, arrival 2, departure 3, stop_id 4, schedule_relationship 5
-abbrev pub stop_table : ℕ → Reading
-stop_table n =
-    if n == 1 then number
-    else if n == 2 then one event_wrong
-    else if n == 3 then one event_wrong
-    else if n == 4 then words
-    else if n == 5 then number
-    else skipped
 
 abbrev pub stop_seen : StopUpdate → ℕ → Bool
 stop_seen u n = if n == 2 then is_some u.arrival else if n == 3 then is_some u.departure else false

@@ -10,18 +10,15 @@ use Rattle.rt_reader.specs.declared.feed.Header.{Header}
 use Rattle.rt_reader.specs.declared.feed.Feed.{Feed}
 use Rattle.rt_reader.specs.Faults.{first}
 use Rattle.rt_reader.specs.Fields.{Part, Reading, skipped, number, words, one, many, number_in, part_in, later, not_zero}
+use Rattle.rt_reader.specs.Tables.{trip_table, entity_table, header_table, feed_table, whole_of, wrong_incrementality}
 use Rattle.rt_reader.specs.Walk.{part_wrong, part_value}
-use Rattle.rt_reader.specs.Trips.{trip_table, trip_seen, trip_add, trip_blank, update_of}
+use Rattle.rt_reader.specs.Trips.{descriptor_walked, stop_walked, trip_seen, trip_add, trip_blank, update_of}
 
-abbrev pub trip_wrong : List ℕ → Part → Option MessageFault
-trip_wrong body p = part_wrong trip_table trip_seen trip_add trip_blank body p
+abbrev pub trip_walked : List ℕ → Part → Option MessageFault
+trip_walked body p = part_wrong (trip_table descriptor_walked stop_walked) trip_seen trip_add trip_blank body p
 
 abbrev pub trip_value : List ℕ → Part → TripUpdate
 trip_value body p = update_of (part_value trip_add trip_blank body p)
-
--- is_deleted 2, trip_update 3
-abbrev pub entity_table : ℕ → Reading
-entity_table n = if n == 2 then number else if n == 3 then one trip_wrong else skipped
 
 abbrev pub entity_seen : Entity → ℕ → Bool
 entity_seen e n = if n == 3 then is_some e.update else false
@@ -35,15 +32,11 @@ entity_add body e f = record {
   update = later e.update (option_map (trip_value body) (part_in 3 f));
 }
 
-abbrev pub entity_wrong : List ℕ → Part → Option MessageFault
-entity_wrong body p = part_wrong entity_table entity_seen entity_add entity_blank body p
+abbrev pub entity_walked : List ℕ → Part → Option MessageFault
+entity_walked body p = part_wrong (entity_table trip_walked) entity_seen entity_add entity_blank body p
 
 abbrev pub entity_value : List ℕ → Part → Entity
 entity_value body p = part_value entity_add entity_blank body p
-
--- incrementality 2, timestamp 3
-abbrev pub header_table : ℕ → Reading
-header_table n = if n == 2 then number else if n == 3 then number else skipped
 
 abbrev pub header_seen : Header → ℕ → Bool
 header_seen h n = false
@@ -54,15 +47,11 @@ header_blank = record { incrementality = None; timestamp = None }
 abbrev pub header_add : List ℕ → Header → Field → Header
 header_add body h f = record { incrementality = later h.incrementality (number_in 2 f); timestamp = later h.timestamp (number_in 3 f) }
 
-abbrev pub header_wrong : List ℕ → Part → Option MessageFault
-header_wrong body p = part_wrong header_table header_seen header_add header_blank body p
+abbrev pub header_walked : List ℕ → Part → Option MessageFault
+header_walked body p = part_wrong header_table header_seen header_add header_blank body p
 
 abbrev pub header_value : List ℕ → Part → Header
 header_value body p = part_value header_add header_blank body p
-
--- header 1, entity 2
-abbrev pub feed_table : ℕ → Reading
-feed_table n = if n == 1 then one header_wrong else if n == 2 then many entity_wrong else skipped
 
 abbrev pub feed_seen : Feed → ℕ → Bool
 feed_seen m n = if n == 1 then is_some m.header else false
@@ -76,15 +65,6 @@ feed_add body m f = record {
   entities = m.entities ++ option_to_list (option_map (entity_value body) (part_in 2 f));
 }
 
-abbrev pub whole_of : List ℕ → Part
-whole_of body = record { from = 0; to = length body }
-
--- 1 is DIFFERENTIAL
-abbrev pub wrong_incrementality : Option ℕ → Option MessageFault
-wrong_incrementality None = None
-wrong_incrementality (Some n) = if n == 1 then Some fault.Differential else None
-
--- what is wrong with a feed whose fields are all right
 abbrev pub wrong_header : Option Header → Option MessageFault
 wrong_header None = Some fault.NoHeader
 wrong_header (Some h) = wrong_incrementality h.incrementality
@@ -94,7 +74,7 @@ feed_read body = part_value feed_add feed_blank body (whole_of body)
 
 -- The first fault of a body, if it has one.
 abbrev pub message_wrong : List ℕ → Option MessageFault
-message_wrong body = first (part_wrong feed_table feed_seen feed_add feed_blank body (whole_of body)) (wrong_header (feed_read body).header)
+message_wrong body = first (part_wrong (feed_table header_walked entity_walked) feed_seen feed_add feed_blank body (whole_of body)) (wrong_header (feed_read body).header)
 
 abbrev pub message_from : Feed → Message
 message_from m = record { timestamp = option_and_then (λ h. h.timestamp) m.header; entities = m.entities }

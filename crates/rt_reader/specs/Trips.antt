@@ -7,24 +7,15 @@ use Rattle.rt_reader.specs.declared.fault.MessageFault.{MessageFault}
 use Rattle.rt_reader.specs.declared.trip.Descriptor.{Descriptor}
 use Rattle.rt_reader.specs.declared.trip.TripDraft.{TripDraft}
 use Rattle.rt_reader.specs.Fields.{Part, Reading, skipped, number, words, one, many, bytes_in, number_in, part_in, later}
+use Rattle.rt_reader.specs.Tables.{stop_table, descriptor_table}
 use Rattle.rt_reader.specs.Walk.{part_wrong, part_value}
-use Rattle.rt_reader.specs.Events.{stop_table, stop_seen, stop_add, stop_blank}
+use Rattle.rt_reader.specs.Events.{event_walked, stop_seen, stop_add, stop_blank}
 
-abbrev pub stop_wrong : List ℕ → Part → Option MessageFault
-stop_wrong body p = part_wrong stop_table stop_seen stop_add stop_blank body p
+abbrev pub stop_walked : List ℕ → Part → Option MessageFault
+stop_walked body p = part_wrong (stop_table event_walked) stop_seen stop_add stop_blank body p
 
 abbrev pub stop_value : List ℕ → Part → StopUpdate
 stop_value body p = part_value stop_add stop_blank body p
-
--- trip_id 1, start_time 2, start_date 3, schedule_relationship 4, route_id 5
-abbrev pub descriptor_table : ℕ → Reading
-descriptor_table n =
-    if n == 1 then words
-    else if n == 2 then words
-    else if n == 3 then words
-    else if n == 4 then number
-    else if n == 5 then words
-    else skipped
 
 abbrev pub descriptor_seen : Descriptor → ℕ → Bool
 descriptor_seen d n = false
@@ -44,15 +35,11 @@ descriptor_add body d f = record {
   route_id = later d.route_id (words_in body 5 f);
 }
 
-abbrev pub descriptor_wrong : List ℕ → Part → Option MessageFault
-descriptor_wrong body p = part_wrong descriptor_table descriptor_seen descriptor_add descriptor_blank body p
+abbrev pub descriptor_walked : List ℕ → Part → Option MessageFault
+descriptor_walked body p = part_wrong descriptor_table descriptor_seen descriptor_add descriptor_blank body p
 
 abbrev pub descriptor_value : List ℕ → Part → Descriptor
 descriptor_value body p = part_value descriptor_add descriptor_blank body p
-
--- trip 1, stop_time_update 2
-abbrev pub trip_table : ℕ → Reading
-trip_table n = if n == 1 then one descriptor_wrong else if n == 2 then many stop_wrong else skipped
 
 abbrev pub trip_seen : TripDraft → ℕ → Bool
 trip_seen t n = if n == 1 then is_some t.trip else false

@@ -6,14 +6,7 @@ use Rattle.pb_wire.specs.Cutting.{cut}
 use Rattle.rt_reader.specs.declared.fault.MessageFault.{MessageFault}
 use Rattle.rt_reader.specs.Faults.{fault_of, first}
 use Rattle.rt_reader.specs.Fields.{Part, bytes_in, Reading, wrong_value}
-
-abbrev pub fields_or_none : Result (List Field) WireFault → List Field
-fields_or_none (Ok fs) = fs
-fields_or_none (Err w) = []
-
--- the fields that the bytes of a part are
-abbrev pub fields_of : List ℕ → Part → List Field
-fields_of body p = fields_or_none (cut p.from (bytes_in body p))
+use Rattle.rt_reader.specs.Tables.{wrong_cut, fields_of}
 
 -- what was read after these fields
 unfoldable pub walk_value : {X : Type 0} → (X → Field → X) → X → List Field → X
@@ -27,10 +20,6 @@ wrong_field table seen body x f = wrong_value (table f.number) body (seen x f.nu
 unfoldable pub walk_wrong : {X : Type 0} → (ℕ → Reading) → (X → ℕ → Bool) → (X → Field → X) → List ℕ → X → List Field → Option MessageFault
 walk_wrong table seen add body x [] = None
 walk_wrong table seen add body x (f ∷ fs) = first (wrong_field table seen body x f) (walk_wrong table seen add body (add x f) fs)
-
-abbrev pub wrong_cut : Result (List Field) WireFault → (List Field → Option MessageFault) → Option MessageFault
-wrong_cut (Ok fs) inside = inside fs
-wrong_cut (Err w) inside = Some (fault_of w)
 
 -- of the bytes of a part: first they are cut into fields, then the fields are read
 unfoldable pub part_wrong : {X : Type 0} → (ℕ → Reading) → (X → ℕ → Bool) → (List ℕ → X → Field → X) → X → List ℕ → Part → Option MessageFault

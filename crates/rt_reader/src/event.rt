@@ -1,6 +1,7 @@
 ghost use Rattle.std.specs.Prelude.{◌≡◌, length};
 ghost use Rattle.pb_wire.specs.Wire.{LiesWithin};
-ghost use Rattle.rt_reader.specs.Events.{event_table, event_seen, event_add, event_blank, stop_table, stop_seen, stop_add, stop_blank};
+ghost use Rattle.rt_reader.specs.Tables.{event_table, stop_table};
+ghost use Rattle.rt_reader.specs.Events.{event_walked, event_seen, event_add, event_blank, stop_seen, stop_add, stop_blank};
 
 use crate::draft::Draft;
 use crate::fault::MessageFault;
@@ -41,7 +42,7 @@ impl Draft for Event {
 }
 
 impl Draft for StopUpdate {
-    ghost table = { stop_table };
+    ghost table = { stop_table event_walked };
 
     ghost seen = { stop_seen };
 

@@ -1,6 +1,7 @@
 ghost use Rattle.std.specs.Prelude.{◌≡◌, length};
 ghost use Rattle.pb_wire.specs.Wire.{LiesWithin};
-ghost use Rattle.rt_reader.specs.Feeds.{entity_table, entity_seen, entity_add, entity_blank, header_table, header_seen, header_add, header_blank, feed_table, feed_seen, feed_add, feed_blank};
+ghost use Rattle.rt_reader.specs.Tables.{entity_table, header_table, feed_table};
+ghost use Rattle.rt_reader.specs.Feeds.{trip_walked, header_walked, entity_walked, entity_seen, entity_add, entity_blank, header_seen, header_add, header_blank, feed_seen, feed_add, feed_blank};
 
 use crate::draft::Draft;
 use crate::fault::MessageFault;
@@ -57,7 +58,7 @@ impl Draft for Header {
 }
 
 impl Draft for Entity {
-    ghost table = { entity_table };
+    ghost table = { entity_table trip_walked };
 
     ghost seen = { entity_seen };
 
@@ -91,7 +92,7 @@ impl Draft for Entity {
 }
 
 impl Draft for Feed {
-    ghost table = { feed_table };
+    ghost table = { feed_table header_walked entity_walked };
 
     ghost seen = { feed_seen };
 

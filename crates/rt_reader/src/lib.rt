@@ -12,3 +12,6 @@ mod trip;
 
 pub use fault::MessageFault;
 pub use reading::read_message;
+
+#[cfg(test)]
+mod tests;

@@ -1,6 +1,7 @@
 ghost use Rattle.std.specs.Prelude.{◌≡◌, length};
 ghost use Rattle.pb_wire.specs.Wire.{LiesWithin};
-ghost use Rattle.rt_reader.specs.Trips.{descriptor_table, descriptor_seen, descriptor_add, descriptor_blank, trip_table, trip_seen, trip_add, trip_blank, update_of};
+ghost use Rattle.rt_reader.specs.Tables.{descriptor_table, trip_table};
+ghost use Rattle.rt_reader.specs.Trips.{descriptor_walked, stop_walked, descriptor_seen, descriptor_add, descriptor_blank, trip_seen, trip_add, trip_blank, update_of};
 
 use crate::draft::Draft;
 use crate::fault::MessageFault;
@@ -108,7 +109,7 @@ impl Draft for Descriptor {
 }
 
 impl Draft for TripDraft {
-    ghost table = { trip_table };
+    ghost table = { trip_table descriptor_walked stop_walked };
 
     ghost seen = { trip_seen };
 

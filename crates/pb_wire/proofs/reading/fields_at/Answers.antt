@@ -1,4 +1,3 @@
-use Rattle.std.proofs.Common.{sym, rules}
 use Rattle.pb_wire.proofs.CutLaws.{cut_again, cut_fails_again, is_found, is_fault, is_within}
 use Rattle.pb_wire.proofs.reading.fields_at.Goals as goal
 

@@ -1,4 +1,4 @@
-use Rattle.std.proofs.Common.{◌≡◌, ◌^◌, ◌≤◌, ◌<◌}
+use Rattle.std.proofs.Common.{◌^◌}
 use Rattle.std.proofs.lemmas.List.{nil_from_length}
 use Rattle.pb_wire.specs.Cutting.{varint_at}
 use Rattle.pb_wire.proofs.VarintLoop.{varint_starts, varint_goes_on, varint_ends, varint_is_cut, varint_is_long}
