@@ -1,2 +1,9 @@
 pub mod Texts
 pub mod WalkLoop
+pub mod Lists
+pub mod WalkLaws
+pub mod FirstLaws
+pub mod SlotLaws
+pub mod KindLaws
+pub mod StopLaws
+pub mod TripLaws
