@@ -140,7 +140,7 @@ once_few table n inside body t before (f ∷ fs) h =
     let s = first_none _ (first_wrong table body (before ++ f ∷ []) fs) h in
     let seen = λ (p : Part) (e : part_in n f ≡ Some p). subst (λ o. some_in (all (part_in n) before ++ option_to_list o) ≡ true) (sym e) (some_right (all (part_in n) before) p) in
     few_more (part_in n f) (all (part_in n) fs) (once_few table n inside body t (before ++ f ∷ []) fs s.1)
-      (λ p e. once_none table n inside body t (before ++ f ∷ []) fs (rw (all_snoc (part_in n) before f) (seen p e)) s.1)
+    (λ p e. once_none table n inside body t (before ++ f ∷ []) fs (rw (all_snoc (part_in n) before f) (seen p e)) s.1)
 
 pub one_found : {X : Type 0} (table : ℕ → Reading) (n : ℕ) (inside : List ℕ → Part → Option MessageFault) (body : List ℕ) (fs : List Field) (P : Part → X → Type 0) (h : Part → X) → table n ≡ one inside → first_wrong table body [] fs ≡ None
     → ((p : Part) → inside body p ≡ None → P p (h p)) → IsOnce P (all (part_in n) fs) (last (λ f. option_map h (part_in n f)) fs)
@@ -210,14 +210,15 @@ none_from table body (f ∷ fs) before own r =
     let bs = all (part_in n) before in
     let xs = all (part_in n) fs in
     let here = right_here (table n) body f.at f.value bs xs own.0
-          (λ inside t. subst (λ o. AllByRecursion (λ p. inside body p ≡ None) (option_to_list o ++ xs) × (length (bs ++ (option_to_list o ++ xs)) ≤ 1)) (own_part f) (r.ones n inside t))
-          (λ inside t. subst (λ o. AllByRecursion (λ p. inside body p ≡ None) (option_to_list o ++ xs)) (own_part f) (r.manies n inside t)) in
+    (λ inside t. subst (λ o. AllByRecursion (λ p. inside body p ≡ None) (option_to_list o ++ xs) × (length (bs ++ (option_to_list o ++ xs)) ≤ 1)) (own_part f) (r.ones n inside t))
+    (λ inside t. subst (λ o. AllByRecursion (λ p. inside body p ≡ None) (option_to_list o ++ xs)) (own_part f) (r.manies n inside t)) in
     let rest = none_from table body fs (before ++ f ∷ []) own.1 (record {
-          ones = λ k inside t. let h = r.ones k inside t in
-            (all_tail (λ p. inside body p ≡ None) (part_in k f) (all (part_in k) fs) h.0,
-             rw (all_snoc (part_in k) before f, append_assoc (all (part_in k) before) (option_to_list (part_in k f)) (all (part_in k) fs)) h.1);
-          manies = λ k inside t. all_tail (λ p. inside body p ≡ None) (part_in k f) (all (part_in k) fs) (r.manies k inside t);
-        }) in
+      ones = λ k inside t. let h = r.ones k inside t in (
+        all_tail (λ p. inside body p ≡ None) (part_in k f) (all (part_in k) fs) h.0,
+        rw (all_snoc (part_in k) before f, append_assoc (all (part_in k) before) (option_to_list (part_in k f)) (all (part_in k) fs)) h.1,
+      );
+      manies = λ k inside t. all_tail (λ p. inside body p ≡ None) (part_in k f) (all (part_in k) fs) (r.manies k inside t);
+    }) in
     ap (λ z. first z (first_wrong table body (before ++ f ∷ []) fs)) here ∙ rest
 
 -- ---- of the bytes of a part

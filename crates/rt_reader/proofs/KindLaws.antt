@@ -72,15 +72,15 @@ event_same a b p q = λ i. record { delay = p i; time = q i }
 pub event_only : CutLaw → (body : List ℕ) → IsRead (SpellsEvent body) (λ p. event_wrong body p ≡ None) (event_value body)
 event_only law body = record {
   right = λ p e k. part_right event_table body p k.fields ((law p.from (bytes_in body p) k.fields).1 k.spelt)
-    (none_from event_table body k.fields [] k.own (scalars_inner (λ n. eqb n 1) (λ n. eqb n 2) body k.fields));
+      (none_from event_table body k.fields [] k.own (scalars_inner (λ n. eqb n 1) (λ n. eqb n 2) body k.fields));
   same = λ p e k.
-    event_same e (walk_value (event_add body) event_blank k.fields) (k.delay ∙ sym (event_delay body k.fields)) (k.time ∙ sym (event_time body k.fields))
+      event_same e (walk_value (event_add body) event_blank k.fields) (k.delay ∙ sym (event_delay body k.fields)) (k.time ∙ sym (event_time body k.fields))
       ∙ sym (part_value_cut event_add event_blank body p k.fields ((law p.from (bytes_in body p) k.fields).1 k.spelt));
 }
 
 -- ---- FeedHeader
 
-header_incrementality : (body : List ℕ) (fs : List Field) → (walk_value (header_add body) header_blank fs).incrementality ≡ last (number_in 2) fs
+pub header_incrementality : (body : List ℕ) (fs : List Field) → (walk_value (header_add body) header_blank fs).incrementality ≡ last (number_in 2) fs
 header_incrementality body fs = slot_last (λ h. h.incrementality) (header_add body) header_blank (number_in 2) (λ x f. refl) refl fs
 
 header_timestamp : (body : List ℕ) (fs : List Field) → (walk_value (header_add body) header_blank fs).timestamp ≡ last (number_in 3) fs
@@ -104,8 +104,8 @@ header_same a b p q = λ i. record { incrementality = p i; timestamp = q i }
 pub header_only : CutLaw → (body : List ℕ) → IsRead (SpellsHeader body) (λ p. header_wrong body p ≡ None) (header_value body)
 header_only law body = record {
   right = λ p e k. part_right header_table body p k.fields ((law p.from (bytes_in body p) k.fields).1 k.spelt)
-    (none_from header_table body k.fields [] k.own (scalars_inner (λ n. eqb n 2) (λ n. eqb n 3) body k.fields));
+      (none_from header_table body k.fields [] k.own (scalars_inner (λ n. eqb n 2) (λ n. eqb n 3) body k.fields));
   same = λ p e k.
-    header_same e (walk_value (header_add body) header_blank k.fields) (k.incrementality ∙ sym (header_incrementality body k.fields)) (k.timestamp ∙ sym (header_timestamp body k.fields))
+      header_same e (walk_value (header_add body) header_blank k.fields) (k.incrementality ∙ sym (header_incrementality body k.fields)) (k.timestamp ∙ sym (header_timestamp body k.fields))
       ∙ sym (part_value_cut header_add header_blank body p k.fields ((law p.from (bytes_in body p) k.fields).1 k.spelt));
 }

@@ -7,3 +7,4 @@ pub mod SlotLaws
 pub mod KindLaws
 pub mod StopLaws
 pub mod TripLaws
+pub mod MessageLaws

@@ -126,20 +126,20 @@ stop_only law body =
     let inner = event_only law body in
     record {
       right = λ p u k.
-        let fs = k.fields in
-        let a = once_only (SpellsEvent body) (λ q. event_wrong body q ≡ None) (event_value body) (all (part_in 2) fs) u.arrival inner k.arrival in
-        let d = once_only (SpellsEvent body) (λ q. event_wrong body q ≡ None) (event_value body) (all (part_in 3) fs) u.departure inner k.departure in
-        part_right table body p fs ((law p.from (bytes_in body p) fs).1 k.spelt) (none_from table body fs [] k.own (record {
-          ones = λ n i t. stop_ones (eqb n 1) (eqb n 2) (eqb n 3) (eqb n 4) (eqb n 5) event_wrong i body (all (part_in n) fs)
-            (at_number n 2 (FineOnce event_wrong body) fs (a.1, a.0)) (at_number n 3 (FineOnce event_wrong body) fs (d.1, d.0)) t;
-          manies = λ n i t. absurd (stop_manies (eqb n 1) (eqb n 2) (eqb n 3) (eqb n 4) (eqb n 5) event_wrong i t);
-        }));
+          let fs = k.fields in
+          let a = once_only (SpellsEvent body) (λ q. event_wrong body q ≡ None) (event_value body) (all (part_in 2) fs) u.arrival inner k.arrival in
+          let d = once_only (SpellsEvent body) (λ q. event_wrong body q ≡ None) (event_value body) (all (part_in 3) fs) u.departure inner k.departure in
+          part_right table body p fs ((law p.from (bytes_in body p) fs).1 k.spelt) (none_from table body fs [] k.own (record {
+            ones = λ n i t. stop_ones (eqb n 1) (eqb n 2) (eqb n 3) (eqb n 4) (eqb n 5) event_wrong i body (all (part_in n) fs)
+                (at_number n 2 (FineOnce event_wrong body) fs (a.1, a.0)) (at_number n 3 (FineOnce event_wrong body) fs (d.1, d.0)) t;
+            manies = λ n i t. absurd (stop_manies (eqb n 1) (eqb n 2) (eqb n 3) (eqb n 4) (eqb n 5) event_wrong i t);
+          }));
       same = λ p u k.
-        let fs = k.fields in
-        let a = once_only (SpellsEvent body) (λ q. event_wrong body q ≡ None) (event_value body) (all (part_in 2) fs) u.arrival inner k.arrival in
-        let d = once_only (SpellsEvent body) (λ q. event_wrong body q ≡ None) (event_value body) (all (part_in 3) fs) u.departure inner k.departure in
-        let says : StopSays body fs u = record { seq = k.seq; arrival = a.2 ∙ sym (parts_last (event_value body) 2 fs); departure = d.2 ∙ sym (parts_last (event_value body) 3 fs); stop_id = k.stop_id; relation = k.relation } in
-        stop_same body fs u (walk_value (stop_add body) stop_blank fs) says (stop_says body fs) ∙ sym (part_value_cut stop_add stop_blank body p fs ((law p.from (bytes_in body p) fs).1 k.spelt));
+          let fs = k.fields in
+          let a = once_only (SpellsEvent body) (λ q. event_wrong body q ≡ None) (event_value body) (all (part_in 2) fs) u.arrival inner k.arrival in
+          let d = once_only (SpellsEvent body) (λ q. event_wrong body q ≡ None) (event_value body) (all (part_in 3) fs) u.departure inner k.departure in
+          let says : StopSays body fs u = record { seq = k.seq; arrival = a.2 ∙ sym (parts_last (event_value body) 2 fs); departure = d.2 ∙ sym (parts_last (event_value body) 3 fs); stop_id = k.stop_id; relation = k.relation } in
+          stop_same body fs u (walk_value (stop_add body) stop_blank fs) says (stop_says body fs) ∙ sym (part_value_cut stop_add stop_blank body p fs ((law p.from (bytes_in body p) fs).1 k.spelt));
     }
 
 -- ---- TripDescriptor
@@ -208,6 +208,6 @@ descriptor_only law body = record {
     manies = λ n i t. absurd (five_manies (eqb n 1) (eqb n 2) (eqb n 3) (eqb n 4) (eqb n 5) i t);
   }));
   same = λ p d k.
-    let says : DescriptorSays body k.fields d = record { trip_id = k.trip_id; start_time = k.start_time; start_date = k.start_date; relation = k.relation; route_id = k.route_id } in
-    descriptor_same body k.fields d (walk_value (descriptor_add body) descriptor_blank k.fields) says (descriptor_says body k.fields) ∙ sym (part_value_cut descriptor_add descriptor_blank body p k.fields ((law p.from (bytes_in body p) k.fields).1 k.spelt));
+      let says : DescriptorSays body k.fields d = record { trip_id = k.trip_id; start_time = k.start_time; start_date = k.start_date; relation = k.relation; route_id = k.route_id } in
+      descriptor_same body k.fields d (walk_value (descriptor_add body) descriptor_blank k.fields) says (descriptor_says body k.fields) ∙ sym (part_value_cut descriptor_add descriptor_blank body p k.fields ((law p.from (bytes_in body p) k.fields).1 k.spelt));
 }

@@ -85,19 +85,19 @@ trip_only law body =
     let table = trip_table descriptor_wrong stop_wrong in
     record {
       right = λ p t k.
-        let fs = k.fields in
-        let o = once_only (SpellsDescriptor body) (λ q. descriptor_wrong body q ≡ None) (descriptor_value body) (all (part_in 1) fs) k.trip (descriptor_only law body) k.one_trip in
-        let m = each_only (SpellsStop body) (λ q. stop_wrong body q ≡ None) (stop_value body) (all (part_in 2) fs) k.updates (stop_only law body) k.each_update in
-        part_right table body p fs ((law p.from (bytes_in body p) fs).1 k.spelt) (none_from table body fs [] k.own (both_inner descriptor_wrong stop_wrong body fs (o.1, o.0) m.0));
+          let fs = k.fields in
+          let o = once_only (SpellsDescriptor body) (λ q. descriptor_wrong body q ≡ None) (descriptor_value body) (all (part_in 1) fs) k.trip (descriptor_only law body) k.one_trip in
+          let m = each_only (SpellsStop body) (λ q. stop_wrong body q ≡ None) (stop_value body) (all (part_in 2) fs) k.updates (stop_only law body) k.each_update in
+          part_right table body p fs ((law p.from (bytes_in body p) fs).1 k.spelt) (none_from table body fs [] k.own (both_inner descriptor_wrong stop_wrong body fs (o.1, o.0) m.0));
       same = λ p t k.
-        let fs = k.fields in
-        let o = once_only (SpellsDescriptor body) (λ q. descriptor_wrong body q ≡ None) (descriptor_value body) (all (part_in 1) fs) k.trip (descriptor_only law body) k.one_trip in
-        let m = each_only (SpellsStop body) (λ q. stop_wrong body q ≡ None) (stop_value body) (all (part_in 2) fs) k.updates (stop_only law body) k.each_update in
-        let walked = walk_value (trip_add body) trip_blank fs in
-        let draft : TripDraft = record { trip = k.trip; updates = k.updates } in
-        let trips = o.2 ∙ sym (parts_last (descriptor_value body) 1 fs) ∙ sym (trip_trip body fs) in
-        let updates = m.1 ∙ sym (all_map (stop_value body) (part_in 2) fs) ∙ sym (trip_updates body fs) in
-        k.says ∙ ap update_of (trip_same draft walked trips updates ∙ sym (part_value_cut trip_add trip_blank body p fs ((law p.from (bytes_in body p) fs).1 k.spelt)));
+          let fs = k.fields in
+          let o = once_only (SpellsDescriptor body) (λ q. descriptor_wrong body q ≡ None) (descriptor_value body) (all (part_in 1) fs) k.trip (descriptor_only law body) k.one_trip in
+          let m = each_only (SpellsStop body) (λ q. stop_wrong body q ≡ None) (stop_value body) (all (part_in 2) fs) k.updates (stop_only law body) k.each_update in
+          let walked = walk_value (trip_add body) trip_blank fs in
+          let draft : TripDraft = record { trip = k.trip; updates = k.updates } in
+          let trips = o.2 ∙ sym (parts_last (descriptor_value body) 1 fs) ∙ sym (trip_trip body fs) in
+          let updates = m.1 ∙ sym (all_map (stop_value body) (part_in 2) fs) ∙ sym (trip_updates body fs) in
+          k.says ∙ ap update_of (trip_same draft walked trips updates ∙ sym (part_value_cut trip_add trip_blank body p fs ((law p.from (bytes_in body p) fs).1 k.spelt)));
     }
 
 -- ---- FeedEntity
@@ -140,16 +140,16 @@ entity_only law body =
     let table = entity_table trip_wrong in
     record {
       right = λ p e k.
-        let fs = k.fields in
-        let o = once_only (SpellsTrip body) (λ q. trip_wrong body q ≡ None) (trip_value body) (all (part_in 3) fs) e.update (trip_only law body) k.update in
-        part_right table body p fs ((law p.from (bytes_in body p) fs).1 k.spelt) (none_from table body fs [] k.own (record {
-          ones = λ n i t. entity_ones (eqb n 2) (eqb n 3) trip_wrong i body (all (part_in n) fs) (at_number n 3 (FineOnce trip_wrong body) fs (o.1, o.0)) t;
-          manies = λ n i t. absurd (entity_manies (eqb n 2) (eqb n 3) trip_wrong i t);
-        }));
+          let fs = k.fields in
+          let o = once_only (SpellsTrip body) (λ q. trip_wrong body q ≡ None) (trip_value body) (all (part_in 3) fs) e.update (trip_only law body) k.update in
+          part_right table body p fs ((law p.from (bytes_in body p) fs).1 k.spelt) (none_from table body fs [] k.own (record {
+            ones = λ n i t. entity_ones (eqb n 2) (eqb n 3) trip_wrong i body (all (part_in n) fs) (at_number n 3 (FineOnce trip_wrong body) fs (o.1, o.0)) t;
+            manies = λ n i t. absurd (entity_manies (eqb n 2) (eqb n 3) trip_wrong i t);
+          }));
       same = λ p e k.
-        let fs = k.fields in
-        let o = once_only (SpellsTrip body) (λ q. trip_wrong body q ≡ None) (trip_value body) (all (part_in 3) fs) e.update (trip_only law body) k.update in
-        entity_same e (walk_value (entity_add body) entity_blank fs) (k.deleted ∙ sym (entity_deleted body fs)) (o.2 ∙ sym (parts_last (trip_value body) 3 fs) ∙ sym (entity_update body fs))
+          let fs = k.fields in
+          let o = once_only (SpellsTrip body) (λ q. trip_wrong body q ≡ None) (trip_value body) (all (part_in 3) fs) e.update (trip_only law body) k.update in
+          entity_same e (walk_value (entity_add body) entity_blank fs) (k.deleted ∙ sym (entity_deleted body fs)) (o.2 ∙ sym (parts_last (trip_value body) 3 fs) ∙ sym (entity_update body fs))
           ∙ sym (part_value_cut entity_add entity_blank body p fs ((law p.from (bytes_in body p) fs).1 k.spelt));
     }
 

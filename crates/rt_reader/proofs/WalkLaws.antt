@@ -34,7 +34,7 @@ unfolding walk_wrong first_wrong
 walk_is_first walked looked seen add body R a [] x before r = refl
 walk_is_first walked looked seen add body R a (f ∷ fs) x before r =
     ap (λ z. first z (walk_wrong walked seen add body (add x f) fs)) (a.step x before r f.number f.at f.value)
-      ∙ ap (first (wrong_value (looked f.number) body (some_in (all (part_in f.number) before)) f.at f.value)) (walk_is_first walked looked seen add body R a fs (add x f) (before ++ f ∷ []) (a.keeps x before f r))
+    ∙ ap (first (wrong_value (looked f.number) body (some_in (all (part_in f.number) before)) f.at f.value)) (walk_is_first walked looked seen add body R a fs (add x f) (before ++ f ∷ []) (a.keeps x before f r))
 
 wrong_cut_same : (r : Result (List Field) WireFault) (F G : List Field → Option MessageFault) → ((fs : List Field) → F fs ≡ G fs) → wrong_cut r F ≡ wrong_cut r G
 wrong_cut_same (Ok fs) F G h = h fs
@@ -73,9 +73,6 @@ five_scalars false false false true e s t body at v = refl
 five_scalars false false false false true s t body at v = refl
 five_scalars false false false false false s t body at v = refl
 
-
-
-
 pub event_is_first : (body : List ℕ) (p : Part) → event_walked body p ≡ event_wrong body p
 event_is_first body p = part_is_first event_table event_table event_seen event_add event_blank body p (λ x before. Unit {0}) (record {
   step = λ x before r n at v. two_scalars (eqb n 1) (eqb n 2) false (some_in (all (part_in n) before)) body at v;
@@ -97,7 +94,7 @@ descriptor_is_first body p = part_is_first descriptor_table descriptor_table des
 stop_fields : (i j : List ℕ → Part → Option MessageFault) → ((body : List ℕ) (p : Part) → i body p ≡ j body p) → (a b c d e s t u : Bool) (body : List ℕ) (at : ℕ) (v : FieldValue)
     → (b ≡ true → s ≡ u) → (c ≡ true → t ≡ u)
     → wrong_value (cond a number (cond b (one i) (cond c (one i) (cond d words (cond e number skipped))))) body (cond b s (cond c t false)) at v
-      ≡ wrong_value (cond a number (cond b (one j) (cond c (one j) (cond d words (cond e number skipped))))) body u at v
+    ≡ wrong_value (cond a number (cond b (one j) (cond c (one j) (cond d words (cond e number skipped))))) body u at v
 stop_fields i j h true b c d e s t u body at v p q = refl
 stop_fields i j h false true c d e s t u body at v p q = ap (λ z. wrong_one i body z at v) (p refl) ∙ one_same i j h body u at v
 stop_fields i j h false false true d e s t u body at v p q = ap (λ z. wrong_one i body z at v) (q refl) ∙ one_same i j h body u at v

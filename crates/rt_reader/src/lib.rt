@@ -11,7 +11,7 @@ mod slots;
 mod trip;
 
 pub use fault::MessageFault;
-pub use reading::read_message;
+pub use reading::{one_message, read_message};
 
 #[cfg(test)]
 mod tests;
