@@ -1,6 +1,6 @@
 -- The two laws of a whole message: a body with no fault spells what is read of it, and a body that spells
 -- a message has no fault and is read as it.
-use Rattle.std.proofs.Common.{◌≡◌, ◌↔◌, ℕ, ◌-◌, ◌≤◌, true, false, cond, eqb, List, [], ◌∷◌, length, map, take, drop, Option, Some, None, Result, Ok, Err, refl, sym, ap, subst, ◌∙◌, ◌⊎◌, inl, inr, arith}
+use Rattle.std.proofs.Common.{◌≡◌, ◌↔◌, ℕ, ◌-◌, ◌≤◌, List, [], ◌∷◌, length, map, Option, Some, None, Result, Ok, Err, refl, sym, ap, subst, ◌∙◌, inl, inr, arith}
 use Rattle.std.specs.Prelude.{option_map}
 use Rattle.std.proofs.lemmas.Bool.Decides.{eqb_tells}
 use Rattle.std.proofs.lemmas.List.{take_all}
@@ -10,11 +10,10 @@ use Rattle.pb_wire.specs.declared.field.Field.{Field}
 use Rattle.pb_wire.specs.Wire.{Spells}
 use Rattle.pb_wire.specs.Cutting.{cut}
 use Rattle.rt_reader.specs.declared.fault.MessageFault.{MessageFault}
-use Rattle.rt_reader.specs.declared.fault.MessageFault.TheVariants as fault
 use Rattle.rt_reader.specs.declared.feed.Header.{Header}
 use Rattle.rt_reader.specs.declared.feed.Feed.{Feed}
-use Rattle.rt_reader.specs.Faults.{OrMemory, Reads, first}
-use Rattle.rt_reader.specs.Fields.{Part, bytes_in, number_in, part_in}
+use Rattle.rt_reader.specs.Faults.{Reads, first}
+use Rattle.rt_reader.specs.Fields.{Part, bytes_in, part_in}
 use Rattle.rt_reader.specs.Tables.{all, last, last_in, feed_table, header_wrong, entity_wrong, feed_wrong, wrong_incrementality, wrong_headers, first_fault, fields_of, fields_or_none, whole_of}
 use Rattle.rt_reader.specs.Walk.{walk_value, part_wrong, part_value}
 use Rattle.rt_reader.specs.Feeds.{header_add, header_blank, header_value, header_walked, entity_value, entity_walked, feed_seen, feed_add, feed_blank, wrong_header, feed_read, message_wrong, message_value, message_from}

@@ -1,33 +1,23 @@
 -- For updates of stops and trips: bytes with no fault spell what is read of them, and bytes that spell a value have no
 -- fault and are read as it.
-use Rattle.std.proofs.Common.{◌≡◌, ◌↔◌, ℕ, ◌-◌, ◌≤◌, Bool, true, false, not, cond, eqb, List, [], ◌∷◌, ◌++◌, length, map, take, drop, Option, Some, None, Result, Ok, Err, refl, sym, ap, subst, ◌∙◌, arith}
-use Rattle.std.specs.Prelude.{option_map, option_to_list, option_and_then, unwrap_or}
+use Rattle.std.proofs.Common.{◌≡◌, ℕ, ◌≤◌, Bool, true, false, cond, eqb, List, [], length, map, Option, None, refl, sym, ap, subst, ◌∙◌}
+use Rattle.std.specs.Prelude.{option_map, unwrap_or}
 use Rattle.std.specs.List.{AllByRecursion}
-use Rattle.otp_model.specs.declared.message.Event.{Event}
 use Rattle.otp_model.specs.declared.message.StopUpdate.{StopUpdate}
-use Rattle.otp_model.specs.declared.message.TripUpdate.{TripUpdate}
-use Rattle.otp_model.specs.declared.message.Entity.{Entity}
-use Rattle.otp_model.specs.declared.message.Message.{Message}
 use Rattle.pb_wire.specs.declared.field.Field.{Field}
-use Rattle.pb_wire.specs.Wire.{Spells}
-use Rattle.pb_wire.specs.Cutting.{cut}
 use Rattle.rt_reader.specs.declared.fault.MessageFault.{MessageFault}
 use Rattle.rt_reader.specs.declared.trip.Descriptor.{Descriptor}
-use Rattle.rt_reader.specs.declared.trip.TripDraft.{TripDraft}
-use Rattle.rt_reader.specs.declared.feed.Header.{Header}
-use Rattle.rt_reader.specs.declared.feed.Feed.{Feed}
-use Rattle.rt_reader.specs.Fields.{Part, Reading, skipped, number, words, one, many, bytes_in, number_in, part_in, not_zero}
-use Rattle.rt_reader.specs.Tables.{first_wrong, wrong_part, all, last_in, last, event_table, stop_table, descriptor_table, trip_table, entity_table, header_table, feed_table, event_wrong, stop_wrong, descriptor_wrong, trip_wrong, entity_wrong, header_wrong, feed_wrong}
-use Rattle.rt_reader.specs.Spelling.{Owns, IsOnce, IsEach, SpellsEvent, SpellsStop, SpellsDescriptor, SpellsTrip, SpellsEntity, SpellsHeader}
-use Rattle.rt_reader.specs.Walk.{walk_value, part_value}
-use Rattle.rt_reader.specs.Events.{signed, event_add, event_blank, event_value, stop_add, stop_blank}
-use Rattle.rt_reader.specs.Trips.{words_in, stop_value, descriptor_add, descriptor_blank, descriptor_value, trip_add, trip_blank, update_of}
-use Rattle.rt_reader.specs.Feeds.{trip_value, entity_add, entity_blank, entity_value, header_add, header_blank, header_value}
+use Rattle.rt_reader.specs.Fields.{Part, skipped, number, words, one, many, bytes_in, number_in, part_in}
+use Rattle.rt_reader.specs.Tables.{all, last_in, last, stop_table, descriptor_table, event_wrong, stop_wrong, descriptor_wrong}
+use Rattle.rt_reader.specs.Spelling.{IsOnce, SpellsEvent, SpellsStop, SpellsDescriptor}
+use Rattle.rt_reader.specs.Walk.{walk_value}
+use Rattle.rt_reader.specs.Events.{event_value, stop_add, stop_blank}
+use Rattle.rt_reader.specs.Trips.{words_in, stop_value, descriptor_add, descriptor_blank, descriptor_value}
 use Rattle.std.proofs.lemmas.Bool.{eqb-true}
-use Rattle.rt_reader.proofs.Lists.{all_map, IsRead, once_only, each_only}
+use Rattle.rt_reader.proofs.Lists.{all_map, IsRead, once_only}
 use Rattle.rt_reader.proofs.WalkLoop.{part_value_cut}
-use Rattle.rt_reader.proofs.FirstLaws.{owns, one_found, many_found, Inner, none_from, part_none, part_right}
-use Rattle.rt_reader.proofs.SlotLaws.{slot_last, slot_or, slot_all, last_option_map}
+use Rattle.rt_reader.proofs.FirstLaws.{owns, one_found, none_from, part_none, part_right}
+use Rattle.rt_reader.proofs.SlotLaws.{slot_last, slot_or}
 use Rattle.rt_reader.proofs.KindLaws.{CutLaw, event_found, event_only}
 
 -- a slot of an embedded message, by the parts that spell it

@@ -1,5 +1,5 @@
 -- What isn't text fails the test for text.
-use Rattle.std.proofs.Common.{◌≡◌, ℕ, List, true, false, inl, inr}
+use Rattle.std.proofs.Common.{◌≡◌, ℕ, List, false, inl, inr}
 use Rattle.std.proofs.lemmas.Bool.{cases_Bool}
 use Rattle.std.proofs.lemmas.Str.{IsUtf8-from_is_utf8}
 use Rattle.std.specs.Prelude.{IsUtf8}

@@ -1,19 +1,12 @@
 -- Walking with a state finds the same fault as looking back at the fields before.
-use Rattle.std.proofs.Common.{◌≡◌, ℕ, Bool, true, false, cond, eqb, List, [], ◌∷◌, ◌++◌, Option, Some, None, Result, Ok, Err, refl, sym, ap, ◌∙◌}
+use Rattle.std.proofs.Common.{◌≡◌, ℕ, Bool, true, false, cond, eqb, List, [], ◌∷◌, ◌++◌, Option, Result, Ok, Err, refl, ap, ◌∙◌}
 use Rattle.std.specs.Prelude.{is_some, option_map}
 use Rattle.std.proofs.lemmas.Bool.{eqb-true}
-use Rattle.otp_model.specs.declared.message.Event.{Event}
-use Rattle.otp_model.specs.declared.message.StopUpdate.{StopUpdate}
-use Rattle.otp_model.specs.declared.message.Entity.{Entity}
 use Rattle.pb_wire.specs.declared.field.Field.{Field}
 use Rattle.pb_wire.specs.declared.field.FieldValue.{FieldValue}
 use Rattle.pb_wire.specs.declared.field.FieldValue.TheVariants as value
 use Rattle.pb_wire.specs.declared.field.WireFault.{WireFault}
 use Rattle.rt_reader.specs.declared.fault.MessageFault.{MessageFault}
-use Rattle.rt_reader.specs.declared.trip.Descriptor.{Descriptor}
-use Rattle.rt_reader.specs.declared.trip.TripDraft.{TripDraft}
-use Rattle.rt_reader.specs.declared.feed.Header.{Header}
-use Rattle.rt_reader.specs.declared.feed.Feed.{Feed}
 use Rattle.rt_reader.specs.Faults.{first}
 use Rattle.rt_reader.specs.Fields.{Part, Reading, skipped, number, words, one, many, part_in, later, wrong_value, wrong_one, wrong_many}
 use Rattle.rt_reader.specs.Tables.{wrong_cut, first_wrong, wrong_part, all, some_in, event_table, stop_table, descriptor_table, trip_table, entity_table, header_table, feed_table, event_wrong, stop_wrong, descriptor_wrong, trip_wrong, entity_wrong, header_wrong, feed_wrong}

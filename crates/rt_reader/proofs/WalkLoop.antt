@@ -1,5 +1,5 @@
 -- Reading field by field, as a loop does.
-use Rattle.std.proofs.Common.{◌≡◌, ℕ, suc, ◌-◌, ◌+◌, ◌≤◌, ◌<◌, Bool, List, [], ◌∷◌, length, get_or, drop, Option, Some, None, Result, Ok, Err, refl, sym, ap, ◌∙◌, add-one, drop-cons, arith}
+use Rattle.std.proofs.Common.{◌≡◌, ℕ, ◌+◌, ◌≤◌, ◌<◌, Bool, List, ◌∷◌, length, get_or, drop, Option, Some, None, Ok, Err, refl, sym, ap, ◌∙◌, add-one, drop-cons, arith}
 use Rattle.std.proofs.lemmas.List.{drop_all}
 use Rattle.pb_wire.specs.declared.field.Field.{Field}
 use Rattle.pb_wire.specs.declared.field.FieldValue.{FieldValue}
@@ -11,7 +11,7 @@ use Rattle.pb_wire.specs.Cutting.{cut}
 use Rattle.pb_wire.specs.Cutting as wired
 use Rattle.rt_reader.specs.declared.fault.MessageFault.{MessageFault}
 use Rattle.rt_reader.specs.declared.fault.MessageFault.TheVariants as fault
-use Rattle.rt_reader.specs.Faults.{fault_of, OrMemory, first}
+use Rattle.rt_reader.specs.Faults.{fault_of, OrMemory}
 use Rattle.rt_reader.specs.Fields.{Part, Reading, bytes_in}
 use Rattle.rt_reader.specs.Walk.{wrong_field, walk_wrong, walk_value, part_wrong, part_value}
 

@@ -1,11 +1,11 @@
 -- StopTimeEvent and StopTimeUpdate (GTFS Realtime reference), by the numbers of their fields.
-use Rattle.std.specs.Prelude.{ℕ, ℤ, Bool, true, false, List, Option, Some, None, is_some, option_map, unwrap_or, ◌==◌, ◌||◌, if◌then◌else◌}
+use Rattle.std.specs.Prelude.{ℕ, ℤ, Bool, false, List, Option, None, is_some, option_map, unwrap_or, ◌==◌, if◌then◌else◌}
 use Rattle.std.specs.Int.{w64, cast_signed}
 use Rattle.otp_model.specs.declared.message.Event.{Event}
 use Rattle.otp_model.specs.declared.message.StopUpdate.{StopUpdate}
 use Rattle.pb_wire.specs.declared.field.Field.{Field}
 use Rattle.rt_reader.specs.declared.fault.MessageFault.{MessageFault}
-use Rattle.rt_reader.specs.Fields.{Part, Reading, skipped, number, words, one, many, bytes_in, number_in, part_in, later}
+use Rattle.rt_reader.specs.Fields.{Part, bytes_in, number_in, part_in, later}
 use Rattle.rt_reader.specs.Tables.{event_table}
 use Rattle.rt_reader.specs.Walk.{part_wrong, part_value}
 

@@ -1,5 +1,5 @@
 -- FeedHeader, FeedEntity and FeedMessage (GTFS Realtime reference), by the numbers of their fields.
-use Rattle.std.specs.Prelude.{ℕ, Bool, false, List, [], ◌++◌, length, Option, Some, None, is_some, option_map, option_to_list, option_and_then, unwrap_or, ◌==◌, if◌then◌else◌}
+use Rattle.std.specs.Prelude.{ℕ, Bool, false, List, [], ◌++◌, Option, Some, None, is_some, option_map, option_to_list, option_and_then, unwrap_or, ◌==◌, if◌then◌else◌}
 use Rattle.otp_model.specs.declared.message.TripUpdate.{TripUpdate}
 use Rattle.otp_model.specs.declared.message.Entity.{Entity}
 use Rattle.otp_model.specs.declared.message.Message.{Message}
@@ -9,7 +9,7 @@ use Rattle.rt_reader.specs.declared.fault.MessageFault.TheVariants as fault
 use Rattle.rt_reader.specs.declared.feed.Header.{Header}
 use Rattle.rt_reader.specs.declared.feed.Feed.{Feed}
 use Rattle.rt_reader.specs.Faults.{first}
-use Rattle.rt_reader.specs.Fields.{Part, Reading, skipped, number, words, one, many, number_in, part_in, later, not_zero}
+use Rattle.rt_reader.specs.Fields.{Part, number_in, part_in, later, not_zero}
 use Rattle.rt_reader.specs.Tables.{trip_table, entity_table, header_table, feed_table, whole_of, wrong_incrementality}
 use Rattle.rt_reader.specs.Walk.{part_wrong, part_value}
 use Rattle.rt_reader.specs.Trips.{descriptor_walked, stop_walked, trip_seen, trip_add, trip_blank, update_of}

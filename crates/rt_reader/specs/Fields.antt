@@ -1,7 +1,7 @@
 -- What a field says, by its number and its value, and what is wrong with it: Protocol Buffers, "Field
 -- Types" and "Last One Wins". That a field with another wire type than its own, or a second value of a
 -- singular message, is refused is this project's own.
-use Rattle.std.specs.Prelude.{◌≡◌, ℕ, Bool, not, ◌-◌, List, take, drop, Option, Some, None, ◌==◌, if◌then◌else◌}
+use Rattle.std.specs.Prelude.{ℕ, Bool, not, ◌-◌, List, take, drop, Option, Some, None, ◌==◌, if◌then◌else◌}
 use Rattle.std.specs.Str.{is_utf8}
 use Rattle.pb_wire.specs.declared.field.Field.{Field}
 use Rattle.pb_wire.specs.declared.field.FieldValue.{FieldValue}

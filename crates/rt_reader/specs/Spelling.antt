@@ -18,7 +18,7 @@ use Rattle.pb_wire.specs.declared.field.FieldValue.TheVariants as value
 use Rattle.rt_reader.specs.declared.trip.Descriptor.{Descriptor}
 use Rattle.rt_reader.specs.declared.feed.Header.{Header}
 use Rattle.rt_reader.specs.Fields.{Part, Reading, skipped, number, words, one, many, bytes_in, number_in, part_in, not_zero}
-use Rattle.rt_reader.specs.Tables.{event_table, stop_table, descriptor_table, trip_table, entity_table, header_table, feed_table, all, last, event_wrong, stop_wrong, descriptor_wrong, trip_wrong, entity_wrong, header_wrong, whole_of}
+use Rattle.rt_reader.specs.Tables.{event_table, stop_table, descriptor_table, trip_table, entity_table, header_table, feed_table, all, last, event_wrong, stop_wrong, descriptor_wrong, trip_wrong, entity_wrong, header_wrong}
 use Rattle.rt_reader.specs.Events.{signed}
 use Rattle.rt_reader.specs.Trips.{words_in, update_of}
 

@@ -1,12 +1,12 @@
 -- TripDescriptor and TripUpdate (GTFS Realtime reference), by the numbers of their fields.
-use Rattle.std.specs.Prelude.{ℕ, Bool, false, List, [], ◌++◌, Option, Some, None, is_some, option_map, option_to_list, unwrap_or, ◌==◌, if◌then◌else◌}
+use Rattle.std.specs.Prelude.{ℕ, Bool, false, List, [], ◌++◌, Option, None, is_some, option_map, option_to_list, unwrap_or, ◌==◌, if◌then◌else◌}
 use Rattle.otp_model.specs.declared.message.StopUpdate.{StopUpdate}
 use Rattle.otp_model.specs.declared.message.TripUpdate.{TripUpdate}
 use Rattle.pb_wire.specs.declared.field.Field.{Field}
 use Rattle.rt_reader.specs.declared.fault.MessageFault.{MessageFault}
 use Rattle.rt_reader.specs.declared.trip.Descriptor.{Descriptor}
 use Rattle.rt_reader.specs.declared.trip.TripDraft.{TripDraft}
-use Rattle.rt_reader.specs.Fields.{Part, Reading, skipped, number, words, one, many, bytes_in, number_in, part_in, later}
+use Rattle.rt_reader.specs.Fields.{Part, bytes_in, number_in, part_in, later}
 use Rattle.rt_reader.specs.Tables.{stop_table, descriptor_table}
 use Rattle.rt_reader.specs.Walk.{part_wrong, part_value}
 use Rattle.rt_reader.specs.Events.{event_walked, stop_seen, stop_add, stop_blank}

@@ -1,10 +1,9 @@
 -- A message read field by field: what it holds after each, and the first fault.
-use Rattle.std.specs.Prelude.{ℕ, Bool, List, [], ◌∷◌, Option, Some, None, Result, Ok, Err}
+use Rattle.std.specs.Prelude.{ℕ, Bool, List, [], ◌∷◌, Option, None}
 use Rattle.pb_wire.specs.declared.field.Field.{Field}
-use Rattle.pb_wire.specs.declared.field.WireFault.{WireFault}
 use Rattle.pb_wire.specs.Cutting.{cut}
 use Rattle.rt_reader.specs.declared.fault.MessageFault.{MessageFault}
-use Rattle.rt_reader.specs.Faults.{fault_of, first}
+use Rattle.rt_reader.specs.Faults.{first}
 use Rattle.rt_reader.specs.Fields.{Part, bytes_in, Reading, wrong_value}
 use Rattle.rt_reader.specs.Tables.{wrong_cut, fields_of}
 

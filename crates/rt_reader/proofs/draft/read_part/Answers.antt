@@ -1,12 +1,10 @@
-use Rattle.std.proofs.Common.{◌≡◌, ◌+◌, ◌-◌, ◌≤◌, length, drop, get_or, Some, None, Ok, refl, sym, ap, ◌∙◌, length-drop, arith}
+use Rattle.std.proofs.Common.{◌+◌, ◌-◌, ◌≤◌, length, drop, get_or, Ok, refl, sym, ap, ◌∙◌, length-drop, arith}
 use Rattle.std.proofs.lemmas.Result.{err_from_is_err_and}
 use Rattle.std.proofs.lemmas.List.{length-take}
 use Rattle.pb_wire.specs.declared.field.FieldValue.TheVariants as value
 use Rattle.pb_wire.specs.declared.field.Field.{Field}
-use Rattle.pb_wire.specs.Cutting.{cut}
 use Rattle.pb_wire.specs.Wire.{LiesWithin}
 use Rattle.rt_reader.specs.Fields.{Part, bytes_in}
-use Rattle.rt_reader.specs.Walk.{walk_wrong, walk_value}
 use Rattle.rt_reader.proofs.WalkLoop.{loop_wrong, loop_value, loop_ends, loop_done, loop_done_value, part_wrong_cut, part_value_cut, wire_fails, lies_in_body}
 use Rattle.rt_reader.proofs.draft.read_part.Goals as goal
 
