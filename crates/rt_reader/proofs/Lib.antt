@@ -1,0 +1,10 @@
+pub mod Texts
+pub mod WalkLoop
+pub mod Lists
+pub mod WalkLaws
+pub mod FirstLaws
+pub mod SlotLaws
+pub mod KindLaws
+pub mod StopLaws
+pub mod TripLaws
+pub mod MessageLaws
