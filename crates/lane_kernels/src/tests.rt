@@ -6,8 +6,8 @@ use super::{any_covers, first_at_least, plain, within};
 
 const EDGE: i64 = 1_099_511_627_776;
 
-// The widest column of a case: five groups, so that each length below it has whole groups and a rest of every size.
-const PLACES: usize = 40;
+// The widest column of a case: lengths up to it have whole groups, up to two blocks of `within`, and rests of every size.
+const PLACES: usize = 140;
 
 // What a call of `within` asks of a column, as a test at run time.
 fn are_coordinates(column: &[i64]) -> bool
