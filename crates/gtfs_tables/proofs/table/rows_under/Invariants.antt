@@ -3,7 +3,7 @@ use Rattle.std.specs.List.{All}
 use Rattle.gtfs_records.specs.Faults.{each}
 use Rattle.gtfs_records.specs.Table.{row_of}
 use Rattle.gtfs_records.proofs.EachFacts.{with_front}
-use Rattle.gtfs_records.proofs.table.rows_under.Given as goal
+use Rattle.gtfs_tables.proofs.table.rows_under.Given as goal
 
 abbrev pub invariant-loop-row : goal.invariant-loop-row
 invariant-loop-row g l = record {

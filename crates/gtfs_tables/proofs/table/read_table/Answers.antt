@@ -1,6 +1,6 @@
 use Rattle.gtfs_records.proofs.CountFacts.{records_of-few, table-few}
 use Rattle.gtfs_records.specs.Table.{row_of}
-use Rattle.gtfs_records.proofs.table.read_table.Goals as goal
+use Rattle.gtfs_tables.proofs.table.read_table.Goals as goal
 
 pub returns-clause-few : goal.returns-clause-few
 returns-clause-few g c =

@@ -6,11 +6,8 @@ ghost use Rattle.gtfs_records.specs.Records.{records_of};
 ghost use Rattle.gtfs_records.specs.Table.{cells, column_at, header_of, row_of, table_of};
 ghost use Rattle.gtfs_records.specs.declared.fault.Fault.{Fault};
 
-use crate::fault::TableError;
-use crate::header::column_of;
-use crate::line::Line;
-use crate::records::Records;
 use csv::ByteRecord;
+use gtfs_records::{Line, Records, TableError, column_of};
 use otp_base::{List, Memory};
 use std::alloc::Global;
 
@@ -93,7 +90,7 @@ fn rows_under<T: TableRow>(
 
 /// The rows of a table, or its first fault: the columns that must be there in their order, then row by
 /// row the cells that are no text or that their readers refuse. There are no more rows than bytes.
-#[tactic(auto, unfolding(crate::specs::Table::table_of))]
+#[tactic(auto, unfolding(gtfs_records::specs::Table::table_of))]
 pub fn read_table<T: TableRow>(alloc: Global, file: &[u8]) -> Result<List<T>, TableError>
     ensures rows { Gives (λ table. table) result (table_of T.names T.needed T.row_at (records_of file.now)) }
     ensures are_read { IfOk result (All T.is_read) }

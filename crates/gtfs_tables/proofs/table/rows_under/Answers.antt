@@ -3,7 +3,7 @@ use Rattle.std.proofs.lemmas.List.Elements.{All-push}
 use Rattle.csv.specs.Records.{fields_of}
 use Rattle.gtfs_records.specs.Table.{row_of}
 use Rattle.gtfs_records.proofs.EachFacts.{fails, goes_on, is_done}
-use Rattle.gtfs_records.proofs.table.rows_under.Goals as goal
+use Rattle.gtfs_tables.proofs.table.rows_under.Goals as goal
 
 pub returns-then-not-branch-clause-rows : goal.returns-then-not-branch-clause-rows
 returns-then-not-branch-clause-rows g c =
