@@ -74,7 +74,10 @@ pub fn code(lowest: u8, highest: u8, bytes: &[u8]) -> Option<u32>
 {
     match bytes {
         [digit] => {
-            if *digit >= b'0' && *digit <= b'9' && *digit - b'0' >= lowest && *digit - b'0' <= highest
+            if *digit >= b'0'
+                && *digit <= b'9'
+                && *digit - b'0' >= lowest
+                && *digit - b'0' <= highest
             {
                 Some((*digit - b'0') as u32)
             } else {

@@ -1,5 +1,4 @@
-ghost use Rattle.std.specs.Prelude.{◌≡◌, ◌++◌, ◌<◌, ◌≤◌, Some, [], IfOk, IfSome, codes, string_bytes};
-ghost use Rattle.std.specs.Option.{is_some};
+ghost use Rattle.std.specs.Prelude.{◌≡◌, ◌++◌, ◌≤◌, Some, IfOk, IfSome, codes, length, string_bytes};
 ghost use Rattle.otp_base.specs.Faults.{Rose};
 ghost use Rattle.otp_model.specs.Rows.{AreRead};
 ghost use Rattle.gtfs_records.specs.Records.{records_of};

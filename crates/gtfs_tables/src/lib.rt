@@ -26,10 +26,12 @@ mod trips;
 
 pub use feed::read_tables;
 pub use otp_model::{
-    AgencyRow, CalendarRow, DateRow, FeedFault, RouteRow, StopRow, StopTimeRow, Tables, TransferLine,
-    TripRow,
+    AgencyRow, CalendarRow, DateRow, FeedFault, RouteRow, StopRow, StopTimeRow, Tables,
+    TransferLine, TripRow,
 };
 pub use plain_file::{Plain, PlainFault, read_plain};
 
+#[cfg(test)]
+mod feed_tests;
 #[cfg(test)]
 mod tests;

@@ -12,4 +12,4 @@ returns-in_err-dates-clause-tables g c =
 pub returns-clause-tables : goal.returns-clause-tables
 unfolding from_dates
 returns-clause-tables g c =
-    step_goes (g.F.Folder.files c.args.folder.now) _ _ c.in_ok-dates.dates c.read_from_transfers.result c.in_ok-dates.ensures.table (rw c.in_ok-dates.ensures.unchanged at c.read_from_transfers.ensures.tables)
+    step_goes (g.F.Folder.files c.args.folder.now) _ _ c.in_ok-dates.dates c.read_from_transfers.result c.in_ok-dates.ensures.table (rw (c.or_empty.ensures, c.in_ok-dates.ensures.unchanged) at c.read_from_transfers.ensures.tables)
