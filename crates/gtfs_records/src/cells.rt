@@ -1,7 +1,7 @@
-ghost use Rattle.std.specs.Prelude.{◌≡◌, ◌≤◌, false, IfOk, Option, None, option_map};
+ghost use Rattle.std.specs.Prelude.{◌≡◌, ◌≢◌, ◌≤◌, ◌<◌, ◌^◌, ◌≤ℤ◌, [], pos, neg_ℤ, false, IfOk, IfSome, Option, None, option_map};
 ghost use Rattle.std.specs.Str.{is_utf8};
 ghost use Rattle.gtfs_records.specs.Faults.{Gives};
-ghost use Rattle.gtfs_records.specs.Fields.{any_of, choice_of, clock_of, coordinate_of, count_of, count_or_none_of, filled_of, time_of};
+ghost use Rattle.gtfs_records.specs.Fields.{any_of, choice_of, clock_of, code_of, coordinate_of, count_of, count_or_none_of, filled_of, time_of};
 ghost use Rattle.gtfs_records.specs.Table.{accepted, cells, read_cell, text_at};
 
 use crate::fault::{Cause, Fault, TableError};
@@ -11,7 +11,8 @@ use otp_base::Text;
 use std::alloc::Global;
 
 impl Line {
-    fn fault(&self, cause: Cause, column: usize) -> TableError
+    /// A fault of this cause at a column of the record.
+    pub fn fault(&self, cause: Cause, column: usize) -> TableError
         ensures { result ≡ TableError.Fault (record { cause = cause; row = self.now.row; column = column }) }
     {
         TableError::Fault(Fault {
@@ -22,7 +23,7 @@ impl Line {
     }
 
     /// The cell of a column as text.
-    fn text(&self, column: usize) -> Result<&str, TableError>
+    pub fn text(&self, column: usize) -> Result<&str, TableError>
         ensures { Gives (λ s. s.now) result (text_at self.now.row (cells self.now) column) }
     {
         match str::from_utf8(self.cell(column)) {
@@ -33,7 +34,8 @@ impl Line {
 
     /// Some text.
     pub fn filled(&self, alloc: Global, column: usize) -> Result<Text, TableError>
-        ensures { Gives (λ x. x) result (read_cell filled_of self.now.row (cells self.now) column) }
+        ensures text { Gives (λ x. x) result (read_cell filled_of self.now.row (cells self.now) column) }
+        ensures some { IfOk result (λ text. text ≢ []) }
     {
         let text = self.text(column)?;
         if text.is_empty() {
@@ -52,7 +54,8 @@ impl Line {
 
     /// A time of day, or none.
     pub fn clock(&self, column: usize) -> Result<Option<u32>, TableError>
-        ensures { Gives (λ x. x) result (read_cell clock_of self.now.row (cells self.now) column) }
+        ensures time { Gives (λ x. x) result (read_cell clock_of self.now.row (cells self.now) column) }
+        ensures small { IfOk result (λ time. IfSome time (λ seconds. seconds < 3600000)) }
     {
         let text = self.text(column)?;
         match fields::clock(text.as_bytes()) {
@@ -74,7 +77,8 @@ impl Line {
 
     /// A number of 1 to 9 digits.
     pub fn count(&self, column: usize) -> Result<u32, TableError>
-        ensures { Gives (λ x. x) result (read_cell count_of self.now.row (cells self.now) column) }
+        ensures count { Gives (λ x. x) result (read_cell count_of self.now.row (cells self.now) column) }
+        ensures small { IfOk result (λ n. n < 10 ^ 9) }
     {
         let text = self.text(column)?;
         match fields::count(text.as_bytes()) {
@@ -85,7 +89,8 @@ impl Line {
 
     /// A number of 1 to 9 digits; empty is 0.
     pub fn count_or_none(&self, column: usize) -> Result<u32, TableError>
-        ensures { Gives (λ x. x) result (read_cell count_or_none_of self.now.row (cells self.now) column) }
+        ensures count { Gives (λ x. x) result (read_cell count_or_none_of self.now.row (cells self.now) column) }
+        ensures small { IfOk result (λ n. n < 10 ^ 9) }
     {
         let text = self.text(column)?;
         if text.is_empty() {
@@ -100,7 +105,8 @@ impl Line {
     /// A digit up to `highest`; empty is 0.
     pub fn choice(&self, highest: u8, column: usize) -> Result<u32, TableError>
         requires { highest ≤ 9 }
-        ensures { Gives (λ x. x) result (read_cell (choice_of highest) self.now.row (cells self.now) column) }
+        ensures code { Gives (λ x. x) result (read_cell (choice_of highest) self.now.row (cells self.now) column) }
+        ensures small { IfOk result (λ n. n ≤ highest) }
     {
         let text = self.text(column)?;
         match fields::choice(highest, text.as_bytes()) {
@@ -109,9 +115,23 @@ impl Line {
         }
     }
 
+    /// A digit from `lowest` to `highest`.
+    pub fn code(&self, lowest: u8, highest: u8, column: usize) -> Result<u32, TableError>
+        requires { highest ≤ 9 }
+        ensures code { Gives (λ x. x) result (read_cell (code_of lowest highest) self.now.row (cells self.now) column) }
+        ensures small { IfOk result (λ n. (lowest ≤ n) × (n ≤ highest)) }
+    {
+        let text = self.text(column)?;
+        match fields::code(lowest, highest, text.as_bytes()) {
+            Some(code) => Ok(code),
+            None => Err(self.fault(Cause::BadField, column)),
+        }
+    }
+
     /// A coordinate up to `limit` millionths either way, by the cell of the location type.
     pub fn degrees(&self, limit: u32, location: usize, column: usize) -> Result<i64, TableError>
-        ensures { Gives (λ x. x) result (read_cell (coordinate_of limit (cells self.now location)) self.now.row (cells self.now) column) }
+        ensures place { Gives (λ x. x) result (read_cell (coordinate_of limit (cells self.now location)) self.now.row (cells self.now) column) }
+        ensures within { IfOk result (λ z. (neg_ℤ (pos limit) ≤ℤ z) × (z ≤ℤ pos limit)) }
     {
         let text = self.text(column)?;
         if text.is_empty() {

@@ -1,6 +1,6 @@
-ghost use Rattle.std.specs.Prelude.{◌≡◌, ◌+◌, ◌*◌, ◌^◌, ◌<◌, ◌≤◌, length, IfSome, IsTrue};
+ghost use Rattle.std.specs.Prelude.{◌≡◌, ◌+◌, ◌*◌, ◌^◌, ◌<◌, ◌≤◌, length, IfSome, IsTrue, pos, neg_ℤ, ◌≤ℤ◌};
 ghost use Rattle.std.specs.List.{list_all};
-ghost use Rattle.gtfs_records.specs.Fields.{choice_of, clock_of, count_of, degrees_of, digit_count_of, digits_from, fraction_of, is_digit, minutes_of, millionths_of, six_of, sixty_of, trim_start, trim_end, trim_spaces};
+ghost use Rattle.gtfs_records.specs.Fields.{choice_of, clock_of, code_of, count_of, degrees_of, digit_count_of, digits_from, fraction_of, is_digit, limited_to, minutes_of, millionths_of, six_of, sixty_of, trim_start, trim_end, trim_spaces};
 
 /// The bytes without spaces at their start.
 #[tactic(auto, unfolding(crate::specs::Fields::trim_start))]
@@ -55,7 +55,8 @@ fn digits(front: u32, bytes: &[u8]) -> Option<u32>
 /// A number of 1 to 9 digits.
 #[tactic(auto, unfolding(crate::specs::Fields::count_of))]
 pub fn count(bytes: &[u8]) -> Option<u32>
-    ensures { result ≡ count_of bytes.now }
+    ensures value { result ≡ count_of bytes.now }
+    ensures small { IfSome result (λ n. n < 10 ^ 9) }
 {
     if bytes.is_empty() || bytes.len() > 9 {
         None
@@ -64,11 +65,35 @@ pub fn count(bytes: &[u8]) -> Option<u32>
     }
 }
 
+/// One digit from `lowest` to `highest`.
+#[tactic(auto, unfolding(crate::specs::Fields::code_of))]
+pub fn code(lowest: u8, highest: u8, bytes: &[u8]) -> Option<u32>
+    requires { highest ≤ 9 }
+    ensures value { result ≡ code_of lowest highest bytes.now }
+    ensures small { IfSome result (λ n. (lowest ≤ n) × (n ≤ highest)) }
+{
+    match bytes {
+        [digit] => {
+            if *digit >= b'0'
+                && *digit <= b'9'
+                && *digit - b'0' >= lowest
+                && *digit - b'0' <= highest
+            {
+                Some((*digit - b'0') as u32)
+            } else {
+                None
+            }
+        }
+        _ => None,
+    }
+}
+
 /// One digit up to `highest`; empty is 0.
 #[tactic(auto, unfolding(crate::specs::Fields::choice_of))]
 pub fn choice(highest: u8, bytes: &[u8]) -> Option<u32>
     requires { highest ≤ 9 }
-    ensures { result ≡ choice_of highest bytes.now }
+    ensures value { result ≡ choice_of highest bytes.now }
+    ensures small { IfSome result (λ n. n ≤ highest) }
 {
     match bytes {
         [] => Some(0),
@@ -113,7 +138,8 @@ fn minutes(bytes: &[u8]) -> Option<u32>
 /// Hours, minutes and seconds, in seconds; empty is none.
 #[tactic(auto, unfolding(crate::specs::Fields::clock_of))]
 pub fn clock(bytes: &[u8]) -> Option<Option<u32>>
-    ensures { result ≡ clock_of bytes.now }
+    ensures value { result ≡ clock_of bytes.now }
+    ensures small { IfSome result (λ time. IfSome time (λ seconds. seconds < 3600000)) }
 {
     if bytes.is_empty() {
         return Some(None);
@@ -195,36 +221,31 @@ fn millionths(bytes: &[u8]) -> Option<u32>
     Some(1_000_000 * degrees + fraction)
 }
 
+/// A number of millionths up to `limit`, on the other side where it is negative.
+fn limited(limit: u32, negative: bool, size: u32) -> Option<i64>
+    ensures value { result ≡ limited_to limit negative size }
+    ensures small { IfSome result (λ z. (neg_ℤ (pos limit) ≤ℤ z) × (z ≤ℤ pos limit)) }
+{
+    if size > limit {
+        return None;
+    }
+    if negative {
+        Some(0 - i64::from(size))
+    } else {
+        Some(i64::from(size))
+    }
+}
+
 /// A signed number of degrees up to `limit` millionths either way.
 #[tactic(auto, unfolding(crate::specs::Fields::degrees_of))]
 pub fn degrees(limit: u32, bytes: &[u8]) -> Option<i64>
-    ensures { result ≡ degrees_of limit bytes.now }
+    ensures value { result ≡ degrees_of limit bytes.now }
+    ensures small { IfSome result (λ z. (neg_ℤ (pos limit) ≤ℤ z) × (z ≤ℤ pos limit)) }
 {
     match bytes {
         [] => None,
-        [b'-', rest @ ..] => {
-            let size = millionths(rest)?;
-            if size <= limit {
-                Some(0 - size as i64)
-            } else {
-                None
-            }
-        }
-        [b'+', rest @ ..] => {
-            let size = millionths(rest)?;
-            if size <= limit {
-                Some(size as i64)
-            } else {
-                None
-            }
-        }
-        _ => {
-            let size = millionths(bytes)?;
-            if size <= limit {
-                Some(size as i64)
-            } else {
-                None
-            }
-        }
+        [b'-', rest @ ..] => limited(limit, true, millionths(rest)?),
+        [b'+', rest @ ..] => limited(limit, false, millionths(rest)?),
+        _ => limited(limit, false, millionths(bytes)?),
     }
 }

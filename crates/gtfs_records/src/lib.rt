@@ -1,10 +1,10 @@
-//! The tables of a feed as text: comma-separated records under a header, read row by row through the
-//! reader of each column, with the first fault in row order (GTFS Schedule reference, "File
-//! Requirements"; RFC 4180).
+//! A feed's files as records of text: comma-separated records under a header (GTFS Schedule reference,
+//! "File Requirements"; RFC 4180), where the columns stand in it, and the cells of a record through the
+//! reader of each kind of field ("Field Types").
 //!
-//! A file's bytes are its records (`Records`), the first of which is the header. A kind of row
-//! (`TableRow`) names its columns and reads them from a record (`Line`); `read_table` gives all rows
-//! of a file, or exactly the first fault.
+//! `Records` gives the records of a file's bytes one after the other, `column_of` finds a column in the
+//! header, and a `Line`, a record with the places of its columns, reads its cells. Every fault names its
+//! cause, its row and its column.
 #![tactic(auto)]
 
 mod cells;
@@ -13,9 +13,8 @@ mod fields;
 mod header;
 mod line;
 mod records;
-mod table;
 
 pub use fault::{Cause, Fault, TableError};
+pub use header::column_of;
 pub use line::Line;
 pub use records::Records;
-pub use table::{TableRow, read_table};

@@ -4,3 +4,4 @@ pub mod SightFacts
 pub mod OrderFacts
 pub mod BlockFacts
 pub mod RunFacts
+pub mod ToldFacts

@@ -1,6 +1,7 @@
 ghost use Rattle.gtfs_tables.specs.Form.{plain_names, plain_row_at};
 
-use gtfs_records::{Line, TableError, TableRow};
+use crate::table::TableRow;
+use gtfs_records::{Line, TableError};
 use otp_base::Text;
 use std::alloc::Global;
 
@@ -20,6 +21,8 @@ impl TableRow for PlainRow {
     ghost needed = { 5 };
 
     ghost row_at = { plain_row_at };
+
+    ghost is_read = { λ _. Unit {0} };
 
     fn columns() -> &'static [&'static str] {
         &[

@@ -2,13 +2,21 @@
 //! journeys a schedule has, what each is worth, which of them are best and what a page of them is.
 #![tactic(auto)]
 
+mod day;
+mod feed_fault;
 mod journey;
 mod message;
+mod tables;
 mod timetable;
 mod value;
 
+pub use day::parse_day;
+pub use feed_fault::FeedFault;
 pub use journey::{Cursor, Found, Journey, Leg, Page, Place, Request, Value};
 pub use message::{Commit, Entity, Event, Message, StopUpdate, TripUpdate};
+pub use tables::{
+    AgencyRow, CalendarRow, DateRow, RouteRow, StopRow, StopTimeRow, Tables, TransferLine, TripRow,
+};
 pub use timetable::{
     Call, DayNo, Edge, Edges, Point, Profile, Run, RunNo, Stop, StopNo, Time, Trip, TripNo,
 };

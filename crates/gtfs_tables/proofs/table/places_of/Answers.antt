@@ -5,7 +5,7 @@ use Rattle.csv.specs.Records.{fields_of}
 use Rattle.gtfs_records.specs.Table.{column_at}
 use Rattle.gtfs_records.proofs.HeaderFacts.{drop-map_now}
 use Rattle.gtfs_records.proofs.EachFacts.{fails, goes_on, is_done}
-use Rattle.gtfs_records.proofs.table.places_of.Goals as goal
+use Rattle.gtfs_tables.proofs.table.places_of.Goals as goal
 
 pub returns-in_err-place : goal.returns-in_err-place
 returns-in_err-place g c =

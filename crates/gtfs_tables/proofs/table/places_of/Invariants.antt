@@ -3,7 +3,7 @@ use Rattle.csv.specs.Records.{fields_of}
 use Rattle.gtfs_records.specs.Faults.{each}
 use Rattle.gtfs_records.specs.Table.{column_at}
 use Rattle.gtfs_records.proofs.EachFacts.{with_front}
-use Rattle.gtfs_records.proofs.table.places_of.Given as goal
+use Rattle.gtfs_tables.proofs.table.places_of.Given as goal
 
 abbrev pub invariant-loop-column : goal.invariant-loop-column
 invariant-loop-column g l =

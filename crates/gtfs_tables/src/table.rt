@@ -1,25 +1,25 @@
 ghost use Rattle.std.specs.Prelude.{◌≡◌, ◌≤◌, ℕ, IfOk, List, drop, length, map, Result};
+ghost use Rattle.std.specs.List.{All};
 ghost use Rattle.csv.specs.Records.{fields_of};
 ghost use Rattle.gtfs_records.specs.Faults.{Gives, each};
 ghost use Rattle.gtfs_records.specs.Records.{records_of};
 ghost use Rattle.gtfs_records.specs.Table.{cells, column_at, header_of, row_of, table_of};
 ghost use Rattle.gtfs_records.specs.declared.fault.Fault.{Fault};
 
-use crate::fault::TableError;
-use crate::header::column_of;
-use crate::line::Line;
-use crate::records::Records;
 use csv::ByteRecord;
+use gtfs_records::{Line, Records, TableError, column_of};
 use otp_base::{List, Memory};
 use std::alloc::Global;
 
-/// A kind of row: its columns, and how a row is read from its cells.
+/// A kind of row: its columns, how a row is read from its cells, and what holds of each that was read.
 pub trait TableRow: Drop {
     ghost names: { List (List ℕ) };
 
     ghost needed: { ℕ };
 
     ghost row_at: { ℕ → (ℕ → List ℕ) → Result Self Fault };
+
+    ghost is_read: { Self → Type 0 };
 
     /// The names of the columns, those that must be in the header first.
     fn columns() -> &'static [&'static str]
@@ -31,7 +31,8 @@ pub trait TableRow: Drop {
 
     /// Reads a row.
     fn read(alloc: Global, line: &Line) -> Result<Self, TableError>
-        ensures { Gives (λ x. x) result (row_at line.now.row (cells line.now)) };
+        ensures row { Gives (λ x. x) result (row_at line.now.row (cells line.now)) }
+        ensures is_read { IfOk result is_read };
 }
 
 /// Where the columns of a kind of row stand under a header.
@@ -68,7 +69,8 @@ fn rows_under<T: TableRow>(
     mut records: Records,
     places: List<Option<usize>>,
 ) -> Result<List<T>, TableError>
-    ensures { Gives (λ table. table) result (each (row_of T.row_at places) 1 records.entry) }
+    ensures rows { Gives (λ table. table) result (each (row_of T.row_at places) 1 records.entry) }
+    ensures are_read { IfOk result (All T.is_read) }
 {
     let mut line = Line {
         row: 0,
@@ -88,9 +90,10 @@ fn rows_under<T: TableRow>(
 
 /// The rows of a table, or its first fault: the columns that must be there in their order, then row by
 /// row the cells that are no text or that their readers refuse. There are no more rows than bytes.
-#[tactic(auto, unfolding(crate::specs::Table::table_of))]
+#[tactic(auto, unfolding(gtfs_records::specs::Table::table_of))]
 pub fn read_table<T: TableRow>(alloc: Global, file: &[u8]) -> Result<List<T>, TableError>
     ensures rows { Gives (λ table. table) result (table_of T.names T.needed T.row_at (records_of file.now)) }
+    ensures are_read { IfOk result (All T.is_read) }
     ensures few { IfOk result (λ table. length table ≤ length file.now) }
 {
     let mut records = Records::new(alloc, file);

@@ -1,0 +1,15 @@
+use Rattle.std.proofs.lemmas.Result.{err_from_is_err_and}
+use Rattle.gtfs_tables.specs.Steps.{from_agency}
+use Rattle.gtfs_tables.proofs.ToldFacts.{step_fails, step_goes}
+use Rattle.gtfs_tables.proofs.feed.read_from_agency.Goals as goal
+
+pub returns-in_err-agencies-clause-tables : goal.returns-in_err-agencies-clause-tables
+unfolding from_agency
+returns-in_err-agencies-clause-tables g c =
+    let p = err_from_is_err_and c.from_residual.result c.from_residual.ensures.1 in
+    rw (p.1, p.2) (step_fails (g.F.Folder.files c.args.folder.now) _ _ c.in_err-agencies.field-0.0 c.in_err-agencies.ensures.table)
+
+pub returns-clause-tables : goal.returns-clause-tables
+unfolding from_agency
+returns-clause-tables g c =
+    step_goes (g.F.Folder.files c.args.folder.now) _ _ c.in_ok-agencies.agencies c.read_from_stops.result c.in_ok-agencies.ensures.table (rw c.in_ok-agencies.ensures.unchanged at c.read_from_stops.ensures.tables)

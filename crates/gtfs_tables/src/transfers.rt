@@ -1,0 +1,57 @@
+ghost use Rattle.gtfs_tables.specs.Rows.{transfer_at, transfer_names};
+ghost use Rattle.otp_model.specs.Rows.{IsTransferLine};
+
+use crate::table::TableRow;
+use gtfs_records::{Line, TableError};
+use otp_model::TransferLine;
+use std::alloc::Global;
+
+/// The records of `transfers.txt`.
+impl TableRow for TransferLine {
+    ghost names = { transfer_names };
+
+    ghost needed = { 0 };
+
+    ghost row_at = { transfer_at };
+
+    ghost is_read = { IsTransferLine };
+
+    fn columns() -> &'static [&'static str] {
+        &[
+            "from_stop_id",
+            "to_stop_id",
+            "transfer_type",
+            "min_transfer_time",
+            "from_route_id",
+            "to_route_id",
+            "from_trip_id",
+            "to_trip_id",
+        ]
+    }
+
+    fn needed_columns() -> usize {
+        0
+    }
+
+    #[tactic(auto, unfolding(crate::specs::Rows::transfer_at))]
+    fn read(alloc: Global, line: &Line) -> Result<TransferLine, TableError> {
+        let from_stop_id = line.any(alloc, 0)?;
+        let to_stop_id = line.any(alloc, 1)?;
+        let transfer_type = line.choice(5, 2)?;
+        let min_transfer_time = line.count_or_none(3)?;
+        let from_route_id = line.any(alloc, 4)?;
+        let to_route_id = line.any(alloc, 5)?;
+        let from_trip_id = line.any(alloc, 6)?;
+        let to_trip_id = line.any(alloc, 7)?;
+        Ok(TransferLine {
+            from_stop_id,
+            to_stop_id,
+            transfer_type,
+            min_transfer_time,
+            from_route_id,
+            to_route_id,
+            from_trip_id,
+            to_trip_id,
+        })
+    }
+}
