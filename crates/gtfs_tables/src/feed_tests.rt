@@ -92,16 +92,13 @@ fn reads_all_files(rt: HostRuntime) -> Result<(), Fail> {
         ),
         (2, 1, 2, 2)
     );
-    for (stop, (id, name, lat, lon)) in tables
+    for (stop, (id, lat, lon)) in tables
         .stops
         .as_slice()
         .iter()
-        .zip([("A", "A", 0, 0), ("B", "", -100_000, 5)])
+        .zip([("A", 0, 0), ("B", -100_000, 5)])
     {
-        assert_eq!(rt;
-            (stop.stop_id.as_str(), stop.stop_name.as_str()),
-            (id, name)
-        );
+        assert_eq!(rt; stop.stop_id.as_str(), id);
         assert_eq!(rt;
             (stop.stop_lat, stop.stop_lon, stop.location_type),
             (lat, lon, 0)
@@ -156,117 +153,106 @@ fn accepts_what_may_be_missing(rt: HostRuntime) -> Result<(), Fail> {
     Ok(())
 }
 
+// A file in place of the feed's own, and the cause, file, row and column of the first fault.
+const FAULTS: [(&str, &[u8], (u8, u8, u64, &str)); 12] = [
+    ("f/agency.txt", b"", (2, 1, 0, "agency_timezone")),
+    (
+        "f/agency.txt",
+        b"agency_timezone\n \n",
+        (4, 1, 1, "agency_timezone"),
+    ),
+    (
+        "f/stops.txt",
+        b"stop_id,stop_lat,stop_lon\nA,1,1\nB,90.1,x\n",
+        (4, 2, 2, "stop_lat"),
+    ),
+    (
+        "f/stops.txt",
+        b"stop_id,stop_lat,stop_lon\nA,,0\n",
+        (4, 2, 1, "stop_lat"),
+    ),
+    (
+        "f/routes.txt",
+        b"route_id\nR\n\xFF\n",
+        (3, 3, 2, "route_id"),
+    ),
+    ("f/trips.txt", b"trip_id\n", (2, 4, 0, "route_id")),
+    (
+        "f/trips.txt",
+        b"route_id,service_id,trip_id\nR,S\n",
+        (4, 4, 1, "trip_id"),
+    ),
+    (
+        "f/stop_times.txt",
+        b"trip_id,arrival_time,departure_time,stop_id,stop_sequence,pickup_type\nT,8:00:60,,A,1,9\n",
+        (4, 5, 1, "arrival_time"),
+    ),
+    (
+        "f/calendar.txt",
+        b"service_id,monday\n",
+        (2, 6, 0, "tuesday"),
+    ),
+    (
+        "f/calendar_dates.txt",
+        b"service_id,date,exception_type\nS,20230229,1\n",
+        (4, 7, 1, "date"),
+    ),
+    (
+        "f/calendar_dates.txt",
+        b"service_id,date,exception_type\nS,20240229,0\n",
+        (4, 7, 1, "exception_type"),
+    ),
+    (
+        "f/transfers.txt",
+        b"min_transfer_time,transfer_type\n\n1234567890,6\n",
+        (4, 8, 1, "transfer_type"),
+    ),
+];
+
+// Whether the answer is this fault.
+fn is_fault(answer: &Result<Tables, FeedFault>, wanted: (u8, u8, u64, &str)) -> bool {
+    match answer {
+        Err(
+            FeedFault::At {
+                cause,
+                file,
+                row,
+                column,
+            },
+        ) => {
+            *cause == wanted.0
+                && *file == wanted.1
+                && *row == wanted.2
+                && column.as_str() == wanted.3
+        }
+        _ => false,
+    }
+}
+
 #[test]
 fn names_the_first_fault(rt: HostRuntime) -> Result<(), Fail> {
     let alloc = rt.alloc();
-    let faults: [(&[(&str, Option<&[u8]>)], (u8, u8, u64, &str)); 16] = [
-        (
-            &[("f/agency.txt", None), ("f/stops.txt", None)],
-            (1, 1, 0, ""),
-        ),
-        (&[("f/agency.txt", Some(b""))], (2, 1, 0, "agency_timezone")),
-        (
-            &[("f/agency.txt", Some(b"agency_timezone\n \n"))],
-            (4, 1, 1, "agency_timezone"),
-        ),
-        (
-            &[(
-                "f/stops.txt",
-                Some(b"stop_id,stop_lat,stop_lon\nA,1,1\nB,90.1,x\n"),
-            )],
-            (4, 2, 2, "stop_lat"),
-        ),
-        (
-            &[("f/stops.txt", Some(b"stop_id,stop_lat,stop_lon\nA,,0\n"))],
-            (4, 2, 1, "stop_lat"),
-        ),
-        (
-            &[("f/routes.txt", Some(b"route_id\nR\n\xFF\n"))],
-            (3, 3, 2, "route_id"),
-        ),
-        (
-            &[("f/trips.txt", Some(b"trip_id\n"))],
-            (2, 4, 0, "route_id"),
-        ),
-        (
-            &[("f/trips.txt", Some(b"route_id,service_id,trip_id\nR,S\n"))],
-            (4, 4, 1, "trip_id"),
-        ),
-        (
-            &[(
-                "f/stop_times.txt",
-                Some(
-                    b"trip_id,arrival_time,departure_time,stop_id,stop_sequence,pickup_type\nT,8:00:60,,A,1,9\n",
-                ),
-            )],
-            (4, 5, 1, "arrival_time"),
-        ),
-        (
-            &[(
-                "f/stop_times.txt",
-                Some(
-                    b"trip_id,arrival_time,departure_time,stop_id,stop_sequence,pickup_type\nT,8:00:00,,A,1,4\n",
-                ),
-            )],
-            (4, 5, 1, "pickup_type"),
-        ),
-        (
-            &[
-                ("f/calendar.txt", Some(b"service_id,monday\n")),
-                ("f/calendar_dates.txt", None),
-            ],
-            (2, 6, 0, "tuesday"),
-        ),
-        (
-            &[
-                ("f/calendar.txt", None),
-                ("f/calendar_dates.txt", None),
-                ("f/transfers.txt", Some(b"transfer_type\n9\n")),
-            ],
-            (1, 6, 0, ""),
-        ),
-        (
-            &[
-                ("f/calendar.txt", None),
-                (
-                    "f/calendar_dates.txt",
-                    Some(b"service_id,date,exception_type\nS,20230229,1\n"),
-                ),
-            ],
-            (4, 7, 1, "date"),
-        ),
-        (
-            &[(
-                "f/calendar_dates.txt",
-                Some(b"service_id,date,exception_type\nS,20240229,0\n"),
-            )],
-            (4, 7, 1, "exception_type"),
-        ),
-        (
-            &[(
-                "f/transfers.txt",
-                Some(b"min_transfer_time,transfer_type\n\n1234567890,6\n"),
-            )],
-            (4, 8, 1, "transfer_type"),
-        ),
-        (
-            &[("f/transfers.txt", Some(b"to_trip_id\n\xC3\n"))],
-            (3, 8, 1, "to_trip_id"),
-        ),
-    ];
-    for (change, wanted) in faults {
-        match read(alloc, change)? {
-            Err(
-                FeedFault::At {
-                    cause,
-                    file,
-                    row,
-                    column,
-                },
-            ) => assert_eq!(rt; (cause, file, row, column.as_str()), wanted),
-            _ => assert!(rt; false),
-        }
+    for (name, bytes, wanted) in FAULTS {
+        let answer = read(alloc, &[(name, Some(bytes))])?;
+        assert!(rt; is_fault(&answer, wanted), "{name}");
     }
+    Ok(())
+}
+
+#[test]
+fn names_missing_files(rt: HostRuntime) -> Result<(), Fail> {
+    let alloc = rt.alloc();
+    let answer = read(alloc, &[("f/agency.txt", None), ("f/stops.txt", None)])?;
+    assert!(rt; is_fault(&answer, (1, 1, 0, "")));
+    let answer = read(
+        alloc,
+        &[
+            ("f/calendar.txt", None),
+            ("f/calendar_dates.txt", None),
+            ("f/transfers.txt", Some(b"transfer_type\n9\n")),
+        ],
+    )?;
+    assert!(rt; is_fault(&answer, (1, 6, 0, "")));
     Ok(())
 }
 

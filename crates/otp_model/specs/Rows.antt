@@ -1,6 +1,6 @@
 -- What holds of the records of a feed's files once they were read: which texts are filled, and the
 -- ranges of the numbers, as the GTFS Schedule reference gives them or as this project's readers bound them.
-use Rattle.std.specs.Prelude.{◌≡◌, ◌≢◌, ℕ, ◌<◌, ◌≤◌, ◌^◌, ℤ, pos, neg_ℤ, ◌≤ℤ◌, List, [], length, Option, IfSome}
+use Rattle.std.specs.Prelude.{◌≢◌, ℕ, ◌<◌, ◌≤◌, ◌^◌, ℤ, pos, neg_ℤ, ◌≤ℤ◌, List, [], length, Option, IfSome}
 use Rattle.std.specs.List.{All}
 use Rattle.jiff_core.specs.Calendar.{IsEpochDay}
 use Rattle.otp_model.specs.declared.tables.AgencyRow.{AgencyRow}

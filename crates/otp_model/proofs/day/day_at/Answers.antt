@@ -1,4 +1,4 @@
-use Rattle.std.proofs.Common.{◌≡◌, ◌<◌, ◌≤◌, arith, refl, rules, w8, w16, w32}
+use Rattle.std.proofs.Common.{◌≡◌, ◌≤◌, arith, refl, rules, w8, w16, w32}
 use Rattle.std.proofs.lemmas.Int.{to_z-of_z, to_z_pos}
 use Rattle.otp_model.proofs.DayFacts.{date-false, date-true}
 use Rattle.otp_model.proofs.day.day_at.Goals as goal
