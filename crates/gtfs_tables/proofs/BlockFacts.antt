@@ -6,11 +6,11 @@ use Rattle.std.specs.List.{filter}
 use Rattle.std.specs.Str.{bytes_eq}
 use Rattle.otp_model.specs.declared.timetable.Run.{Run}
 use Rattle.gtfs_tables.proofs.OrderFacts.{StartsInOrder, starts}
-use Rattle.gtfs_tables.proofs.SightFacts.{first_sights-without, has-first_sights}
-use Rattle.gtfs_tables.proofs.TestFacts.{same_bytes, bytes_eq-refl, bytes_eq-other_way, not-true, or-left, or-right, filter-none, list_any-map}
+use Rattle.name_index.proofs.SightFacts.{first_sights-without, has-first_sights}
+use Rattle.name_index.proofs.TestFacts.{same_bytes, bytes_eq-refl, bytes_eq-other_way, not-true, or-left, or-right, filter-none, list_any-map}
 use Rattle.gtfs_tables.specs.Blocks.{block_length, first_block_length}
 use Rattle.gtfs_tables.specs.Form.{has_trip, in_order, is_of}
-use Rattle.gtfs_tables.specs.Sights.{first_sights, has_name, is_other}
+use Rattle.otp_model.specs.Sights.{first_sights, has_name, is_other}
 use Rattle.gtfs_tables.specs.Timetable.{call_at, run_at, runs_from, trip_ids}
 use Rattle.gtfs_tables.specs.declared.plain_row.PlainRow.{PlainRow}
 

@@ -3,11 +3,11 @@ use Rattle.std.proofs.Common.{◌≡◌, ℕ, zero, suc, ◌<◌, List, [], ◌�
 use Rattle.std.proofs.Math.Seq.{drop-cons}
 use Rattle.std.specs.Prelude.{nat_le}
 use Rattle.std.specs.Str.{bytes_eq}
-use Rattle.gtfs_tables.proofs.TestFacts.{and-left, and-right, same_bytes}
+use Rattle.name_index.proofs.TestFacts.{and-left, and-right, same_bytes}
 use Rattle.gtfs_tables.specs.Form.{goes_well, has_trip, in_order}
 use Rattle.gtfs_tables.specs.Order.{Sees}
-use Rattle.gtfs_tables.specs.Sights.{has_name, noted}
-use Rattle.gtfs_tables.proofs.SightFacts.{has-append}
+use Rattle.otp_model.specs.Sights.{has_name, noted}
+use Rattle.name_index.proofs.SightFacts.{has-append}
 use Rattle.gtfs_tables.specs.declared.plain_row.PlainRow.{PlainRow}
 
 -- what order says of the first row and of the rest

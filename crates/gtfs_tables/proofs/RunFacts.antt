@@ -12,11 +12,11 @@ use Rattle.otp_model.specs.Ranges.{IsTime, IsTimely}
 use Rattle.otp_model.specs.declared.timetable.Call.{Call}
 use Rattle.otp_model.specs.declared.timetable.Run.{Run}
 use Rattle.gtfs_tables.proofs.OrderFacts.{StartsInOrder, starts}
-use Rattle.gtfs_tables.proofs.SightFacts.{has-first_sights, first_sights-shorter, place-below}
-use Rattle.gtfs_tables.proofs.TestFacts.{same_bytes, bytes_eq-refl, and-right, filter-none, not-true, or-last}
+use Rattle.name_index.proofs.SightFacts.{has-first_sights, first_sights-shorter, place-below}
+use Rattle.name_index.proofs.TestFacts.{same_bytes, bytes_eq-refl, and-right, filter-none, not-true, or-last}
 use Rattle.gtfs_tables.specs.Form.{has_trip, in_order, is_of}
 use Rattle.gtfs_tables.specs.Order.{IsSmall}
-use Rattle.gtfs_tables.specs.Sights.{has_name}
+use Rattle.otp_model.specs.Sights.{has_name}
 use Rattle.gtfs_tables.specs.Timetable.{IsNumbered, call_at, plain_from, run_at, runs_from, stop_ids, stops_from, trip_ids, trip_of}
 use Rattle.gtfs_tables.specs.declared.plain_row.PlainRow.{PlainRow}
 

@@ -1,5 +1,3 @@
-pub mod Keys
-pub mod Sights
 pub mod Form
 pub mod Order
 pub mod Blocks

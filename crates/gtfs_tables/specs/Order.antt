@@ -1,7 +1,7 @@
 -- What going through the rows from the last to the first knows.
 use Rattle.std.specs.Prelude.{◌≡◌, ℕ, ◌<◌, ◌^◌, List}
 use Rattle.gtfs_tables.specs.Form.{has_trip}
-use Rattle.gtfs_tables.specs.Sights.{has_name}
+use Rattle.otp_model.specs.Sights.{has_name}
 use Rattle.gtfs_tables.specs.declared.plain_row.PlainRow.{PlainRow}
 
 -- the names are the trips of the rows

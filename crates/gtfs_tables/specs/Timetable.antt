@@ -7,7 +7,7 @@ use Rattle.otp_model.specs.declared.timetable.Run.{Run}
 use Rattle.otp_model.specs.declared.timetable.Stop.{Stop}
 use Rattle.otp_model.specs.declared.timetable.Trip.{Trip}
 use Rattle.gtfs_tables.specs.Form.{is_of}
-use Rattle.gtfs_tables.specs.Sights.{first_sights, place_of}
+use Rattle.otp_model.specs.Sights.{first_sights, place_of}
 use Rattle.gtfs_tables.specs.declared.plain_file.Plain.{Plain}
 use Rattle.gtfs_tables.specs.declared.plain_row.PlainRow.{PlainRow}
 

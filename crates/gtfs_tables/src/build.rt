@@ -4,7 +4,7 @@ ghost use Rattle.gtfs_tables.specs.Form.{in_order};
 ghost use Rattle.gtfs_tables.specs.Blocks.{block_length, first_block_length};
 ghost use Rattle.gtfs_tables.specs.Timetable.{call_at, plain_from, runs_from, stop_at, stop_ids, stops_from, trip_ids, trip_of};
 
-use crate::names::Names;
+use name_index::Names;
 use crate::plain_file::Plain;
 use crate::plain_row::PlainRow;
 use otp_base::{List, Memory, Text};

@@ -12,7 +12,6 @@ mod calendar_dates;
 mod day_cell;
 mod feed;
 mod file;
-mod names;
 mod order;
 mod plain_file;
 mod plain_row;

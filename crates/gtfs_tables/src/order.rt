@@ -3,7 +3,7 @@ ghost use Rattle.std.specs.List.{All};
 ghost use Rattle.gtfs_tables.specs.Form.{goes_well, in_order};
 ghost use Rattle.gtfs_tables.specs.Order.{IsSmall, Sees};
 
-use crate::names::Names;
+use name_index::Names;
 use crate::plain_row::PlainRow;
 use otp_base::Memory;
 use std::alloc::Global;

@@ -1,9 +1,9 @@
 -- Points on the plane, distances, and which stops are reached on foot from a place. Stations and their
 -- children are those of `stops.txt` in the GTFS Schedule reference; the plane and the seconds of a walk
 -- are this project's own.
-use Rattle.std.specs.Prelude.{◌≡◌, ◌≢◌, ◌⊎◌, ℕ, ◌+◌, ◌*◌, ◌<◌, ◌≤◌, ◌-ℤ◌, unsigned_abs, List, Some, length, slice_get}
+use Rattle.std.specs.Prelude.{◌≡◌, ◌≢◌, ◌⊎◌, ℕ, ℤ, pos, ◌+◌, ◌*◌, ◌<◌, ◌≤◌, ◌-ℤ◌, ◌*ℤ◌, unsigned_abs, List, Some, length, slice_get}
 use Rattle.std.specs.List.{Contains}
-use Rattle.std.specs.Int.{div_ceil}
+use Rattle.std.specs.Int.{div_ceil, int_div_euclid}
 use Rattle.otp_model.specs.declared.timetable.Point.{Point}
 use Rattle.otp_model.specs.declared.timetable.Stop.{Stop}
 use Rattle.otp_model.specs.declared.timetable.Edges.{Edges}
@@ -71,3 +71,11 @@ pub record IsReached (edges : Edges) (place : Place) (stop seconds : ℕ) : Type
 abbrev pub IsPlaceOf : List Stop → Place → Type 0
 IsPlaceOf stops (AtStop n) = n < length stops
 IsPlaceOf stops (AtPoint x y) = Unit {0}
+
+-- Where a latitude and a longitude in millionths of a degree stand: a millionth of a degree of latitude is
+-- 111,195 thousandths of a millimetre long, one of longitude `scale`; rounded down.
+abbrev pub point_at : ℕ → ℤ → ℤ → Point
+point_at scale latitude longitude = record {
+  x = int_div_euclid (longitude *ℤ pos scale) (pos 1000);
+  y = int_div_euclid (latitude *ℤ pos 111195) (pos 1000);
+}

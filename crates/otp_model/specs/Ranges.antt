@@ -30,3 +30,8 @@ pub record IsRequestInRange (r : Request) : Type 0 where
   pub rides : (1 ≤ r.rides) × (r.rides ≤ 8)
   pub walk_points : (100 ≤ r.walk_points) × (r.walk_points ≤ 2000)
   pub board_points : r.board_points ≤ 1000000
+
+-- a day of the years 1970 to 2999
+pub record IsServiceDay (day : ℤ) : Type 0 where
+  pub low : pos 0 ≤ℤ day
+  pub high : day ≤ℤ pos 376199

@@ -5,6 +5,7 @@
 mod day;
 mod feed_fault;
 mod journey;
+mod links;
 mod message;
 mod tables;
 mod timetable;
@@ -13,11 +14,13 @@ mod value;
 pub use day::parse_day;
 pub use feed_fault::FeedFault;
 pub use journey::{Cursor, Found, Journey, Leg, Page, Place, Request, Value};
+pub use links::{TimeRow, TransferRow};
 pub use message::{Commit, Entity, Event, Message, StopUpdate, TripUpdate};
 pub use tables::{
     AgencyRow, CalendarRow, DateRow, RouteRow, StopRow, StopTimeRow, Tables, TransferLine, TripRow,
 };
 pub use timetable::{
-    Call, DayNo, Edge, Edges, Point, Profile, Run, RunNo, Stop, StopNo, Time, Trip, TripNo,
+    Call, DayNo, Edge, Edges, Feed, Point, Profile, Run, RunNo, Stop, StopNo, Time, Trip, TripNo,
+    Zone,
 };
 pub use value::value_of;

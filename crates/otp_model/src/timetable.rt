@@ -1,8 +1,11 @@
-ghost use Rattle.std.specs.Prelude.{◌≡◌, ◌≤ℤ◌, ◌↔◌, IsTrue};
+ghost use Rattle.std.specs.Prelude.{◌≡◌, ◌≤◌, ◌^◌, pos, ◌*ℤ◌, ◌≤ℤ◌, ◌↔◌, IsTrue};
+ghost use Rattle.std.specs.Int.{int_div_euclid};
 ghost use Rattle.std.specs.List.{All, AllPairs};
-ghost use Rattle.otp_model.specs.Plane.{point_of};
+ghost use Rattle.otp_model.specs.Plane.{point_at, point_of};
 ghost use Rattle.otp_model.specs.Ranges.{IsCallInRange, IsTime, IsTimely};
+ghost use Rattle.otp_model.specs.Rows.{IsWithin};
 
+use jiff::tz::TimeZone;
 use otp_base::{List, Text};
 
 /// Seconds since 1970-01-01 00:00 UTC.
@@ -25,6 +28,35 @@ pub type RunNo = u32;
 pub struct Point {
     pub x: i64,
     pub y: i64,
+}
+
+impl Point {
+    /// The point at a latitude and a longitude in millionths of a degree, where a millionth of a degree of
+    /// longitude is `scale` thousandths of a millimetre long; rounded down.
+    pub fn at_degrees(scale: u32, latitude: i64, longitude: i64) -> Point
+        requires scale { scale ≤ 111195 }
+        requires latitude { IsWithin 90000000 latitude }
+        requires longitude { IsWithin 180000000 longitude }
+        ensures point { result ≡ point_at scale latitude longitude }
+        ensures x { IsWithin (2 ^ 40) result.x }
+        ensures y { IsWithin (2 ^ 40) result.y }
+    {
+        Point {
+            x: millimetres(longitude, scale),
+            y: millimetres(latitude, 111_195),
+        }
+    }
+}
+
+/// The length of so many millionths of a degree, of which each is `scale` thousandths of a millimetre long.
+#[tactic(auto, using(crate::proofs::Lengths::scaled_within, crate::proofs::Lengths::whole_within))]
+fn millimetres(degrees: i64, scale: u32) -> i64
+    requires scale { scale ≤ 111195 }
+    requires degrees { IsWithin 180000000 degrees }
+    ensures length { result ≡ int_div_euclid (degrees *ℤ pos scale) (pos 1000) }
+    ensures within { IsWithin (2 ^ 40) result }
+{
+    (degrees * i64::from(scale)).div_euclid(1_000)
 }
 
 /// A row of `stops.txt`, with its place in millimetres and its `location_type`: 0 is a stop or platform,
@@ -147,4 +179,22 @@ pub struct Edges {
     pub stops: List<Stop>,
     pub from: List<List<Edge>>,
     pub profile: Profile,
+}
+
+/// The clock of a feed's agencies, by a rule of POSIX.
+#[derive(Clone, Copy, Debug)]
+pub struct Zone {
+    pub rule: TimeZone<'static>,
+}
+
+/// A feed over the days from `first_day` on: its stops, its trips, and a run for each trip on each of those
+/// days on which its service is active.
+#[derive(Debug, Drop)]
+pub struct Feed {
+    pub stops: List<Stop>,
+    pub trips: List<Trip>,
+    pub runs: List<Run>,
+    pub zone: Zone,
+    pub first_day: DayNo,
+    pub days: u32,
 }

@@ -1,7 +1,7 @@
 use Rattle.std.proofs.Common.{◌∙◌, ◌<◌, ◌≤◌, arith, length, rules, sym}
 use Rattle.std.proofs.lemmas.List.{append-nil}
 use Rattle.gtfs_tables.proofs.BlockFacts.{goes_on, is_nothing, push-step}
-use Rattle.gtfs_tables.specs.Sights.{first_sights}
+use Rattle.otp_model.specs.Sights.{first_sights}
 use Rattle.gtfs_tables.specs.Timetable.{runs_from}
 use Rattle.gtfs_tables.proofs.build.runs_of.Goals as goal
 

@@ -1,5 +1,5 @@
 use Rattle.std.proofs.Common.{◌≡◌, length, map}
-use Rattle.gtfs_tables.proofs.SightFacts.{noted_all}
+use Rattle.name_index.proofs.SightFacts.{noted_all}
 use Rattle.gtfs_tables.specs.Timetable.{stop_ids}
 use Rattle.gtfs_tables.specs.declared.plain_row.PlainRow.{PlainRow}
 use Rattle.gtfs_tables.proofs.build.stop_names.Given as goal

@@ -1,7 +1,7 @@
 use Rattle.std.proofs.Common.{◌∙◌, ap, map, sym}
 use Rattle.std.proofs.lemmas.List.{append-nil}
 use Rattle.gtfs_tables.proofs.BlockFacts.{first_trip, goes_on, is_nothing, push-step}
-use Rattle.gtfs_tables.specs.Sights.{first_sights}
+use Rattle.otp_model.specs.Sights.{first_sights}
 use Rattle.gtfs_tables.specs.Timetable.{trip_of}
 use Rattle.gtfs_tables.proofs.build.trips_of.Goals as goal
 

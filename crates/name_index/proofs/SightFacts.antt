@@ -3,8 +3,8 @@ use Rattle.std.proofs.Common.{◌≡◌, ℕ, ◌+◌, ◌≤◌, ◌<◌, List,
 use Rattle.std.specs.List.{filter}
 use Rattle.std.specs.Str.{bytes_eq}
 use Rattle.std.proofs.lemmas.List.{append-nil}
-use Rattle.gtfs_tables.proofs.TestFacts.{same_bytes, bytes_eq-refl, bytes_eq-other_way, or-left, or-right, filter-swap}
-use Rattle.gtfs_tables.specs.Sights.{first_sights, has_name, is_other, noted, place_of}
+use Rattle.name_index.proofs.TestFacts.{same_bytes, bytes_eq-refl, bytes_eq-other_way, or-left, or-right, filter-swap}
+use Rattle.otp_model.specs.Sights.{first_sights, has_name, is_other, noted, place_of}
 
 -- what noting each of the names in turn makes of those that were seen
 unfoldable pub noted_all : List (List ℕ) → List (List ℕ) → List (List ℕ)

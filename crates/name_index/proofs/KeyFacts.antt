@@ -4,9 +4,9 @@ use Rattle.std.specs.Prelude.{nat_lt}
 use Rattle.std.specs.List.{list_any, position_or_len}
 use Rattle.std.specs.Str.{bytes_eq}
 use Rattle.std.proofs.lemmas.Bool.{cases_lt, lt-ltb}
-use Rattle.gtfs_tables.proofs.TestFacts.{list_any-map}
-use Rattle.gtfs_tables.specs.Keys.{texts_of}
-use Rattle.gtfs_tables.specs.Sights.{has_name, noted, place_of}
+use Rattle.name_index.proofs.TestFacts.{list_any-map}
+use Rattle.name_index.specs.Keys.{texts_of}
+use Rattle.otp_model.specs.Sights.{has_name, noted, place_of}
 
 pub has-texts_of : (keys : List (Bor (List ℕ))) (name : List ℕ) → list_any (λ (key : Bor (List ℕ)). bytes_eq name key.now) keys ≡ has_name (texts_of keys) name
 has-texts_of keys name = sym (list_any-map (bytes_eq name) (λ (key : Bor (List ℕ)). key.now) keys)

@@ -1,8 +1,8 @@
 use Rattle.std.proofs.Common.{◌∙◌, ℕ, List, Bor, sym, arith}
 use Rattle.std.specs.Str.{bytes_eq}
-use Rattle.gtfs_tables.proofs.KeyFacts.{length-texts_of, place-texts_of, place-within, position-found, position-missing}
-use Rattle.gtfs_tables.specs.Keys.{texts_of}
-use Rattle.gtfs_tables.proofs.names.Names.place.Goals as goal
+use Rattle.name_index.proofs.KeyFacts.{length-texts_of, place-texts_of, place-within, position-found, position-missing}
+use Rattle.name_index.specs.Keys.{texts_of}
+use Rattle.name_index.proofs.names.Names.place.Goals as goal
 
 pub returns-in-Some-clause-place : goal.returns-in-Some-clause-place
 returns-in-Some-clause-place c =

@@ -1,5 +1,5 @@
 ghost use Rattle.std.specs.Prelude.{◌≡◌, ◌≤◌, [], IfOk, OnOk, length, option_map, slice_get};
-ghost use Rattle.gtfs_tables.specs.Sights.{has_name, noted, place_of};
+ghost use Rattle.otp_model.specs.Sights.{has_name, noted, place_of};
 
 use indexmap::IndexSet;
 use otp_base::Memory;
@@ -14,7 +14,7 @@ pub struct Names<'a> {
 
 impl<'a> Model for Names<'a> {
     ghost use Rattle.std.specs.Prelude.{List, ℕ};
-    ghost use Rattle.gtfs_tables.specs.Keys.{texts_of};
+    ghost use Rattle.name_index.specs.Keys.{texts_of};
 
     ghost Value = { List (List ℕ) };
 

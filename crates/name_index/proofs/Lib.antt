@@ -1,0 +1,3 @@
+pub mod TestFacts
+pub mod KeyFacts
+pub mod SightFacts

@@ -1,0 +1,40 @@
+-- What holds of every feed that is accepted.
+use Rattle.std.specs.Prelude.{◌≢◌, ◌⊎◌, ℕ, ◌<◌, ◌^◌, pos, neg_ℤ, ◌+ℤ◌, ◌≤ℤ◌, length, IfSome}
+use Rattle.std.specs.List.{All, AllPairs}
+use Rattle.otp_model.specs.declared.timetable.Call.{Call}
+use Rattle.otp_model.specs.declared.timetable.Run.{Run}
+use Rattle.otp_model.specs.declared.timetable.Stop.{Stop}
+use Rattle.otp_model.specs.declared.timetable.Trip.{Trip}
+use Rattle.otp_model.specs.declared.timetable.Feed.{Feed}
+use Rattle.otp_model.specs.Ranges.{IsServiceDay}
+
+-- a call at one of so many stops, left no earlier than it is arrived at, with times from -2 ^ 36 to 2 ^ 36
+pub record IsSoundCall (stops : ℕ) (call : Call) : Type 0 where
+  pub stop : call.stop < stops
+  pub forward : call.arrival ≤ℤ call.departure
+  pub low : neg_ℤ (pos (2 ^ 36)) ≤ℤ call.arrival
+  pub high : call.departure ≤ℤ pos (2 ^ 36)
+
+-- the later call has the greater sequence, and is arrived at no earlier than the other is left
+pub record IsLaterCall (earlier later : Call) : Type 0 where
+  pub rises : earlier.seq < later.seq
+  pub forward : earlier.departure ≤ℤ later.arrival
+
+-- a run of one of so many trips, on a day of the years 1970 to 2999
+pub record IsSoundRun (stops trips : ℕ) (run : Run) : Type 0 where
+  pub trip : run.trip < trips
+  pub day : IsServiceDay run.day
+  pub calls : All (IsSoundCall stops) run.calls
+  pub along : AllPairs IsLaterCall run.calls
+
+pub record IsSound (feed : Feed) : Type 0 where
+  pub few_stops : length feed.stops < 2 ^ 32
+  pub few_trips : length feed.trips < 2 ^ 32
+  pub few_runs : length feed.runs < 2 ^ 32
+  pub parents : All (λ (stop : Stop). IfSome stop.parent (λ parent. parent < length feed.stops)) feed.stops
+  pub stop_ids : AllPairs (λ (a b : Stop). a.id ≢ b.id) feed.stops
+  pub trip_ids : AllPairs (λ (a b : Trip). a.id ≢ b.id) feed.trips
+  pub first_day : pos 0 ≤ℤ feed.first_day
+  pub last_day : (feed.first_day +ℤ pos feed.days) ≤ℤ pos 376200
+  pub runs : All (IsSoundRun (length feed.stops) (length feed.trips)) feed.runs
+  pub run_names : AllPairs (λ (a b : Run). (a.trip ≢ b.trip) ⊎ (a.day ≢ b.day)) feed.runs
