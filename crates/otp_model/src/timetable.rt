@@ -49,7 +49,6 @@ impl Point {
 }
 
 /// The length of so many millionths of a degree, of which each is `scale` thousandths of a millimetre long.
-#[tactic(auto, using(crate::proofs::Lengths::scaled_within, crate::proofs::Lengths::whole_within))]
 fn millimetres(degrees: i64, scale: u32) -> i64
     requires scale { scale ≤ 111195 }
     requires degrees { IsWithin 180000000 degrees }

@@ -1,0 +1,3 @@
+pub mod EachFacts
+pub mod GapFacts
+pub mod RowFacts

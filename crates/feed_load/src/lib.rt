@@ -1,0 +1,8 @@
+//! The feed that a folder spells: its tables with their references, and a run for each trip and day.
+#![tactic(auto)]
+
+mod gap;
+mod trip_calls;
+
+#[cfg(test)]
+mod tests;
