@@ -128,7 +128,13 @@ fn value(departure: i64, arrival: i64, rides: u32, cost: u64) -> Value {
 fn are_timely(runs: &[Run]) -> bool
     ensures { IsTrue result ↔ All IsTimely runs.now }
 {
-    runs.iter().all(|run| run.is_timely())
+    runs.iter().all(is_timely)
+}
+
+fn is_timely(run: &Run) -> bool
+    ensures { IsTrue result ↔ IsTimely run.now }
+{
+    run.is_timely()
 }
 
 fn search(
