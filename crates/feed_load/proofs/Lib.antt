@@ -1,3 +1,4 @@
 pub mod EachFacts
 pub mod GapFacts
 pub mod RowFacts
+pub mod GroupFacts

@@ -1,8 +1,8 @@
 -- What is told of a trip's rows that are in order: its calls, or its first fault.
-use Rattle.std.specs.Prelude.{◌≡◌, ℕ, List, Result, Ok, Err, Some, slice_get, ◌⊎◌}
+use Rattle.std.specs.Prelude.{◌≡◌, ℕ, List, [], ◌∷◌, ◌++◌, length, Some, slice_get, slice_index_or, slice_set}
 use Rattle.otp_model.specs.declared.links.TimeRow.{TimeRow}
 use Rattle.otp_model.specs.declared.timetable.Call.{Call}
-use Rattle.feed_load.specs.Calls.{AreCallsOf, FallsAt, FallsFirstAt, HasEnds, LacksAnEndAt}
+use Rattle.feed_load.specs.Calls.{AreCallsOf, FallsAt, FallsFirstAt, HasEnds, LacksAnEndAt, EachAt, rows_of}
 use Rattle.feed_load.specs.declared.trip_calls.TripFault.{TripFault}
 use Rattle.feed_load.specs.declared.trip_calls.TripFault.TheVariants as fault
 
@@ -34,3 +34,12 @@ abbrev pub IsTripFault : List TimeRow → TripFault → Type 0
 IsTripFault rows (fault.NoTimes row) = LacksAnEnd rows row
 IsTripFault rows (fault.TimesFall row) = FallsAtRow rows row
 IsTripFault rows fault.Memory = Unit {0}
+
+-- the rows of each trip, in row order
+pub record AreGroups (trips : ℕ) (times : List TimeRow) (groups : List (List TimeRow)) : Type 0 where
+  pub count : length groups ≡ trips
+  pub each : EachAt (λ trip rows. rows ≡ rows_of times trip) groups
+
+-- the groups with one more row
+abbrev pub add_row : List (List TimeRow) → TimeRow → List (List TimeRow)
+add_row groups row = slice_set groups row.trip (slice_index_or groups row.trip [] ++ row ∷ [])

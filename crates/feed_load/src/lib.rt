@@ -1,6 +1,7 @@
 //! The feed that a folder spells: its tables with their references, and a run for each trip and day.
 #![tactic(auto)]
 
+mod by_trip;
 mod gap;
 mod trip_calls;
 

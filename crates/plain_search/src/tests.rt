@@ -1,4 +1,4 @@
-ghost use Rattle.std.specs.Prelude.{◌↔◌, IsTrue};
+ghost use Rattle.std.specs.Prelude.{IsTrue};
 ghost use Rattle.std.specs.List.{All};
 ghost use Rattle.otp_model.specs.Ranges.{IsTimely};
 
@@ -126,15 +126,14 @@ fn value(departure: i64, arrival: i64, rides: u32, cost: u64) -> Value {
 }
 
 fn are_timely(runs: &[Run]) -> bool
-    ensures { IsTrue result ↔ All IsTimely runs.now }
+    ensures { IsTrue result → All IsTimely runs.now }
 {
-    runs.iter().all(is_timely)
-}
-
-fn is_timely(run: &Run) -> bool
-    ensures { IsTrue result ↔ IsTimely run.now }
-{
-    run.is_timely()
+    for run in runs {
+        if !run.is_timely() {
+            return false;
+        }
+    }
+    true
 }
 
 fn search(
