@@ -4,6 +4,7 @@
 mod by_trip;
 mod gap;
 mod trip_calls;
+mod trips;
 
 #[cfg(test)]
 mod tests;

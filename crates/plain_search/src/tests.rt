@@ -143,7 +143,10 @@ fn search(
     edges: &Edges,
     request: &Request,
 ) -> Result<Vec<Found>, Fail> {
-    assert!(rt; are_timely(runs));
+    if !are_timely(runs) {
+        assert!(rt; false, "the runs are not timely");
+        return Ok(Vec::new(alloc));
+    }
     assert!(rt; request.is_in_range());
     assert!(rt; edges.profile.reach <= 5_000_000 && edges.profile.speed > 0);
     let stops = edges.stops.as_slice();

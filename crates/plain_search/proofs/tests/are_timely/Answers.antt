@@ -1,4 +1,4 @@
-use Rattle.std.proofs.Common.{◌≡◌, ℕ, ◌+◌, ◌<◌, get_or, subst, arith, inl, inr}
+use Rattle.std.proofs.Common.{rules, ◌≡◌, ℕ, ◌+◌, ◌<◌, get_or, subst, arith, inl, inr}
 use Rattle.std.proofs.lemmas.Bool.{cases_lt}
 use Rattle.std.proofs.lemmas.List.{get_or_read}
 use Rattle.otp_model.specs.declared.timetable.Run.{Run}
@@ -9,7 +9,7 @@ pub loop-run-preserved : goal.loop-run-preserved
 loop-run-preserved c = λ k d h.
     let runs = c.args.runs.now in
     let i = c.loop-run.run-index in
-    let timely : IsTimely c.run-item.result = c.if-not-is_timely.ensures.0 tt in
+    let timely : IsTimely c.run-item.result = c.if-not-is_timely.ensures.0 (search rules) in
     let is : c.run-item.result ≡ get_or runs i d = get_or_read runs i c.run-item.result c.loop-run-test.true c.run-item.is d in
     elim (cases_lt k i) [
       | inl less ↦ c.loop-run.invariant k d less
