@@ -1,18 +1,16 @@
 -- The least of some numbers, and walks from one place to another.
 use Rattle.std.proofs.Common.{arith, ◌≡◌, ◌≢◌, ℕ, ◌+◌, ◌<◌, ◌≤◌, List, [], ◌∷◌, ◌++◌, length, take, get_or, Option, Some, None, ◌⊎◌, inl, inr, refl, sym, ap, subst, ◌∙◌}
-use Rattle.std.specs.List.{Contains, slice_get}
+use Rattle.std.specs.List.{slice_get}
 use Rattle.std.proofs.lemmas.Bool.{cases_lt}
 use Rattle.std.proofs.lemmas.List.{take_more, take_all}
-use Rattle.std.proofs.lemmas.Option.{same_Some}
 use Rattle.otp_model.specs.declared.timetable.Edges.{Edges}
 use Rattle.otp_model.specs.declared.timetable.Point.{Point}
 use Rattle.otp_model.specs.declared.timetable.Stop.{Stop}
 use Rattle.otp_model.specs.declared.journey.Place.{Place}
 use Rattle.otp_model.specs.declared.journey.Place.TheVariants.{Stop as AtStop, At as AtPoint}
-use Rattle.otp_model.specs.Plane.{HasPoint, point_of}
+use Rattle.otp_model.specs.Plane.{point_of}
 use Rattle.otp_base.specs.Adds.{FromSome, IsOnly}
 use Rattle.walk_table.specs.Direct.{IsDirectFromChild, IsDirectWalk, IsLeast, IsWalkInto, IsWalkIntoChild}
-use Rattle.walk_table.specs.Reaches.{IsChildPoint}
 use Rattle.walk_table.specs.Walks.{IsWalkTo, lesser}
 use Rattle.walk_table.proofs.ReachLemmas.{child_of, has_child, has_own, own_point}
 use Rattle.walk_table.proofs.RowLemmas.{some_joined, some_split}

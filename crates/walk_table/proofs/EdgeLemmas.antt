@@ -1,8 +1,7 @@
 -- The edges from a stop.
-use Rattle.std.proofs.Common.{arith, ℤ, pos, ◌-ℤ◌, ◌≡◌, ◌↔◌, ℕ, ◌*◌, ◌+◌, ◌-◌, ◌<◌, ◌≤◌, List, [], ◌∷◌, ◌++◌, length, Option, Some, None, ◌⊎◌, inl, inr, refl, sym, ap, subst, ◌∙◌}
+use Rattle.std.proofs.Common.{arith, ◌≡◌, ◌↔◌, ℕ, ◌*◌, ◌+◌, ◌-◌, ◌<◌, ◌≤◌, List, [], ◌∷◌, ◌++◌, length, Option, Some, None, ◌⊎◌, inl, inr, refl, sym, ap, subst, ◌∙◌}
 use Rattle.std.specs.List.{Any, Contains, slice_get}
 use Rattle.std.specs.Option.{IsSome}
-use Rattle.std.proofs.lemmas.Int.{ints}
 use Rattle.std.proofs.lemmas.List.{length_push}
 use Rattle.std.proofs.lemmas.List.Sums.{sum_by_push}
 use Rattle.std.proofs.lemmas.Option.{same_Some, slice_get_within}
@@ -18,13 +17,13 @@ use Rattle.otp_base.proofs.AddsLemmas.{adds_as, adds_more_below, adds_option, Co
 use Rattle.walk_table.specs.declared.fault.EdgesFault.{EdgesFault}
 use Rattle.walk_table.specs.declared.fault.EdgesFault.TheVariants.{TooMany, Memory}
 use Rattle.walk_table.specs.Faults.{HasMoreFrom, IsCause, IsCauseFrom, IsOverfull}
-use Rattle.walk_table.specs.Edges.{AreEdgesFrom, AreInReach, AreNear, AreRising, EachAt, edge_count, Holds, HasMinimum, IsEdge, IsEdgeUnder, IsGreatest, minimum_of}
+use Rattle.walk_table.specs.Edges.{AreEdgesFrom, AreNear, AreRising, EachAt, edge_count, Holds, HasMinimum, IsEdge, IsEdgeUnder, IsGreatest}
 use Rattle.walk_table.specs.Rows.{Arrives, Bars, IsAmong, IsEdgeTo, IsGiven, IsLeaving, IsMinimum}
-use Rattle.walk_table.specs.Walks.{IsWalkOver, IsWalkTo}
+use Rattle.walk_table.specs.Walks.{IsWalkOver}
 use Rattle.walk_table.proofs.ListLemmas.{each_push, each_weaker}
 use Rattle.walk_table.proofs.RisingLemmas.{IsRisingTo, rising_more}
 use Rattle.walk_table.proofs.RowLemmas.{any_of, greatest_as, greatest_same, of_any}
-use Rattle.walk_table.proofs.WalkLemmas.{same_distance, squares}
+use Rattle.walk_table.proofs.WalkLemmas.{same_distance}
 
 -- the edge to the stop with this number
 abbrev pub IsEdgeAt : List Stop → List TransferRow → Profile → ℕ → Stop → ℕ → Edge → Type 0
@@ -43,12 +42,16 @@ under_as R S profile p from to edge f g h = record {
 held : (stops : List Stop) (transfers rows : List TransferRow) (p : ℕ) (from : Stop) (q : ℕ) (to : Stop) (row : TransferRow) → ((row : TransferRow) → Contains rows row ↔ FromSome (IsLeaving stops p from) transfers row) → IsAmong stops rows from q to row → Contains transfers row × Holds stops p from q to row
 held stops transfers rows p from q to row exact h =
     let g = (exact row).0 h.0 in
-    subst (λ (r : TransferRow). Contains transfers r × Holds stops p from q to r) g.2.0
-    (g.1, record {
-      wide = g.2.1.0; kind = g.2.1.1; leaves = g.2.1.2;
-      arrives = subst (λ (r : TransferRow). Arrives stops q to r) (sym g.2.0) h.1;
-      near = subst (λ (r : TransferRow). (r.kind ≡ 3) ⊎ AreNear from to) (sym g.2.0) h.2;
-    })
+    subst (λ (r : TransferRow). Contains transfers r × Holds stops p from q to r) g.2.0 (
+      g.1,
+      record {
+        wide = g.2.1.0;
+        kind = g.2.1.1;
+        leaves = g.2.1.2;
+        arrives = subst (λ (r : TransferRow). Arrives stops q to r) (sym g.2.0) h.1;
+        near = subst (λ (r : TransferRow). (r.kind ≡ 3) ⊎ AreNear from to) (sym g.2.0) h.2;
+      },
+    )
 
 among : (stops : List Stop) (transfers rows : List TransferRow) (p : ℕ) (from : Stop) (q : ℕ) (to : Stop) (row : TransferRow) → ((row : TransferRow) → Contains rows row ↔ FromSome (IsLeaving stops p from) transfers row) → Contains transfers row × Holds stops p from q to row → IsAmong stops rows from q to row
 among stops transfers rows p from q to row exact h =
@@ -59,7 +62,9 @@ pub edge_of : (stops : List Stop) (transfers rows : List TransferRow) (profile :
 edge_of stops transfers rows profile p from n edge e exact h =
     let at : n ≡ edge.to = sym h.2.0 in
     record {
-      from = from; from_is = e; to = h.0;
+      from = from;
+      from_is = e;
+      to = h.0;
       to_is = subst (λ (k : ℕ). slice_get stops k ≡ Some h.0) at h.1;
       under = subst (λ (k : ℕ). IsEdgeUnder (λ row. Contains transfers row × Holds stops p from k h.0 row) profile p from h.0 edge) at
           (under_as (IsAmong stops rows from n h.0) (λ row. Contains transfers row × Holds stops p from n h.0 row) profile p from h.0 edge
@@ -69,49 +74,15 @@ edge_of stops transfers rows profile p from n edge e exact h =
 pub of_edge : (stops : List Stop) (transfers rows : List TransferRow) (profile : Profile) (p : ℕ) (from : Stop) (edge : Edge) → slice_get stops p ≡ Some from → ((row : TransferRow) → Contains rows row ↔ FromSome (IsLeaving stops p from) transfers row) → IsEdge stops transfers profile p edge → IsEdgeAt stops rows profile p from edge.to edge
 of_edge stops transfers rows profile p from edge e exact h =
     let same : h.from ≡ from = same_Some h.from from (sym h.from_is ∙ e) in
-    let under = subst (λ (f : Stop). IsEdgeUnder (λ row. Contains transfers row × Holds stops p f edge.to h.to row) profile p f h.to edge) same h.under in
-    (h.to, h.to_is, (refl,
-      under_as (λ row. Contains transfers row × Holds stops p from edge.to h.to row) (IsAmong stops rows from edge.to h.to) profile p from h.to edge
-      (λ row. among stops transfers rows p from edge.to h.to row exact) (λ row. held stops transfers rows p from edge.to h.to row exact) under))
-
--- a point is no way from itself
-no_way : (z : ℤ) → z -ℤ z ≡ pos 0
-no_way z = omega (arith, ints)
-
-self_near : (p : Point) → square_apart p p ≡ 0
-self_near p = rw (no_way p.x, no_way p.y) refl
-
--- a stop to which an edge leads is near
-near_edge : (stops : List Stop) (rows : List TransferRow) (profile : Profile) (p : ℕ) (from : Stop) (q : ℕ) (to : Stop) (edge : Edge) → profile.reach ≤ 5000000 → slice_get stops p ≡ Some from → slice_get stops q ≡ Some to → IsEdgeTo stops rows profile p from q to edge → AreNear from to
-near_edge stops rows profile p from q to edge reach at_p at_q h = elim h.1.given [
-    | inl self ↦ (let same : from ≡ to = same_Some from to (sym at_p ∙ subst (λ (k : ℕ). slice_get stops k ≡ Some to) (sym (self ∙ h.0)) at_q) in
-        let none : square_apart (point_of from) (point_of to) ≡ 0 = subst (λ (s : Stop). square_apart (point_of from) (point_of s) ≡ 0) same (self_near (point_of from)) in
-        omega (arith, none))
-    | inr w ↦ elim w [
-      | inl near ↦ (let most = squares profile.reach 5000000 reach in omega (arith, near.2, most))
-      | inr row ↦ elim row.1.2 [ inl barred ↦ absurd (h.1.kept row.0 row.1 barred) | inr near ↦ near ]
-    ]
-  ]
-
-pub edge_none_far : (stops : List Stop) (rows : List TransferRow) (profile : Profile) (p : ℕ) (from : Stop) (q : ℕ) (to : Stop) (at_from at_to : Point) → profile.reach ≤ 5000000 → slice_get stops p ≡ Some from → slice_get stops q ≡ Some to → at_from ≡ point_of from → at_to ≡ point_of to → 5000000 * 5000000 < square_apart at_from at_to → (edge : Edge) → IsEdgeTo stops rows profile p from q to edge → ⊥
-edge_none_far stops rows profile p from q to at_from at_to reach at_p at_q is_from is_to far edge h =
-    let near = near_edge stops rows profile p from q to edge reach at_p at_q h in
-    let beyond : 5000000 * 5000000 < square_apart (point_of from) (point_of to) = subst (λ (a : Point). 5000000 * 5000000 < square_apart a (point_of to)) is_from (subst (λ (b : Point). 5000000 * 5000000 < square_apart at_from b) is_to far) in
-    absurd (omega (arith, near, beyond))
-
-pub edge_none_barred : (stops : List Stop) (rows : List TransferRow) (profile : Profile) (p : ℕ) (from : Stop) (q : ℕ) (to : Stop) → Any (Bars stops q to) rows → (edge : Edge) → IsEdgeTo stops rows profile p from q to edge → ⊥
-edge_none_barred stops rows profile p from q to bars edge h =
-    let row = of_any (Bars stops q to) rows bars in
-    h.1.kept row.0 (row.1, row.2.1, inl row.2.0) row.2.0
-
-pub edge_none_given : (stops : List Stop) (rows : List TransferRow) (profile : Profile) (p : ℕ) (from : Stop) (q : ℕ) (to : Stop) → (IsGiven stops rows profile p from q to → ⊥) → (edge : Edge) → IsEdgeTo stops rows profile p from q to edge → ⊥
-edge_none_given stops rows profile p from q to never edge h = never (elim h.1.given [
-    | inl self ↦ inl (self ∙ h.0)
-    | inr w ↦ elim w [
-      | inl near ↦ inr (inl near)
-      | inr row ↦ inr (inr (any_of (Arrives stops q to) rows row.0 row.1.0 row.1.1))
-    ]
-  ])
+    let under = subst (λ (f : Stop). IsEdgeUnder (λ row. Contains transfers row × Holds stops p f edge.to h.to row) profile p f h.to edge) same h.under in (
+      h.to,
+      h.to_is,
+      (
+        refl,
+        under_as (λ row. Contains transfers row × Holds stops p from edge.to h.to row) (IsAmong stops rows from edge.to h.to) profile p from h.to edge
+            (λ row. among stops transfers rows p from edge.to h.to row exact) (λ row. held stops transfers rows p from edge.to h.to row exact) under,
+      ),
+    )
 
 minimum_there : (stops : List Stop) (rows : List TransferRow) (from : Stop) (q : ℕ) (to : Stop) → AreNear from to → (m : ℕ) → FromSome (IsMinimum stops q to) rows m → HasMinimum (IsAmong stops rows from q to) m
 minimum_there stops rows from q to near m h = (h.0, (h.1, h.2.0, inr near), h.2.1)
@@ -169,12 +140,13 @@ edges_whole stops transfers rows profile p from n list e exact l h rising = reco
 edges_over : (stops : List Stop) (transfers rows : List TransferRow) (profile : Profile) (p : ℕ) (from : Stop) (n : ℕ) (to : Stop) (room : ℕ) (list : List Edge) (o : Option Edge) → slice_get stops p ≡ Some from → ((row : TransferRow) → Contains rows row ↔ FromSome (IsLeaving stops p from) transfers row) → slice_get stops n ≡ Some to → Adds (FromBelow (IsEdgeAt stops rows profile p from) n) [] list → IsRisingTo (λ edge. edge.to) n list → IsOnly (IsEdgeTo stops rows profile p from n to) o → IsSome o → room ≤ length list → HasMoreFrom room stops transfers profile p
 edges_over stops transfers rows profile p from n to room list None e exact at h rising only some full = absurd (cc some)
 edges_over stops transfers rows profile p from n to room list (Some edge) e exact at h rising only some full = (
-    list ++ edge ∷ [],
-    (rising_more (λ (x : Edge). x.to) n (IsEdgeTo stops rows profile p from n to) list (list ++ edge ∷ []) (Some edge) (λ x g. g.0) refl only rising).rises,
-    edges_part stops transfers rows profile p from (n + 1) (list ++ edge ∷ []) e exact
-        (adds_more_below (IsEdgeAt stops rows profile p from) n [] list (list ++ edge ∷ []) h
-        (adds_edge stops rows profile p from n to list (list ++ edge ∷ []) at (adds_option (IsEdgeTo stops rows profile p from n to) list (list ++ edge ∷ []) (Some edge) refl only))),
-    omega (arith, length_push list edge))
+  list ++ edge ∷ [],
+  (rising_more (λ (x : Edge). x.to) n (IsEdgeTo stops rows profile p from n to) list (list ++ edge ∷ []) (Some edge) (λ x g. g.0) refl only rising).rises,
+  edges_part stops transfers rows profile p from (n + 1) (list ++ edge ∷ []) e exact
+      (adds_more_below (IsEdgeAt stops rows profile p from) n [] list (list ++ edge ∷ []) h
+      (adds_edge stops rows profile p from n to list (list ++ edge ∷ []) at (adds_option (IsEdgeTo stops rows profile p from n to) list (list ++ edge ∷ []) (Some edge) refl only))),
+  omega (arith, length_push list edge),
+)
 
 pub cause_from : (stops : List Stop) (transfers rows : List TransferRow) (profile : Profile) (p : ℕ) (from : Stop) (n : ℕ) (to : Stop) (room : ℕ) (list : List Edge) (o : Option Edge) (fault : EdgesFault) → slice_get stops p ≡ Some from → ((row : TransferRow) → Contains rows row ↔ FromSome (IsLeaving stops p from) transfers row) → slice_get stops n ≡ Some to → Adds (FromBelow (IsEdgeAt stops rows profile p from) n) [] list → IsRisingTo (λ edge. edge.to) n list → IsOnly (IsEdgeTo stops rows profile p from n to) o → IsOverfull list o room fault → IsCauseFrom stops transfers profile p room fault
 cause_from stops transfers rows profile p from n to room list o TooMany e exact at h rising only full = edges_over stops transfers rows profile p from n to room list o e exact at h rising only full.0 full.1
@@ -198,4 +170,5 @@ lists_more stops transfers profile from longer list p room e each whole sum new 
     rw e (
       each_push (AreEdgesFrom stops transfers profile) from list each (subst (λ (k : ℕ). AreEdgesFrom stops transfers profile k list) (sym whole) new),
       omega (arith, length_push from list),
-      omega (arith, sum_by_push (λ (l : List Edge). length l) from list))
+      omega (arith, sum_by_push (λ (l : List Edge). length l) from list),
+    )

@@ -15,9 +15,9 @@ each_none {X} P n x e = absurd (let never : ◌≡◌ {A = Option X} None (Some 
 
 pub each_push : {X : Type 0} (P : ℕ → X → Type 0) (xs : List X) (y : X) → EachAt P xs → P (length xs) y → EachAt P (xs ++ y ∷ [])
 each_push {X} P xs y h last n x e = elim (at_push xs y n x e) [
-    | inl a ↦ h n x a
-    | inr b ↦ subst (λ (k : ℕ). P k x) (sym b.0) (subst (λ (z : X). P (length xs) z) b.1 last)
-  ]
+  | inl a ↦ h n x a
+  | inr b ↦ subst (λ (k : ℕ). P k x) (sym b.0) (subst (λ (z : X). P (length xs) z) b.1 last)
+]
 
 pub each_weaker : {X : Type 0} (P Q : ℕ → X → Type 0) (xs : List X) → ((n : ℕ) (x : X) → P n x → Q n x) → EachAt P xs → EachAt Q xs
 each_weaker P Q xs f h n x e = f n x (h n x e)

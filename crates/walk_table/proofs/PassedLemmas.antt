@@ -1,5 +1,5 @@
 -- Counting, and the points of the stops that a row means.
-use Rattle.std.proofs.Common.{arith, ◌≡◌, ◌≢◌, ◌↔◌, ℕ, ◌*◌, ◌+◌, ◌<◌, ◌≤◌, List, [], ◌∷◌, ◌++◌, length, get_or, take, Option, Some, None, false, ◌⊎◌, inl, inr, refl, sym, ap, subst, ◌∙◌}
+use Rattle.std.proofs.Common.{arith, ◌≡◌, ◌≢◌, ◌↔◌, ℕ, ◌*◌, ◌+◌, ◌<◌, ◌≤◌, List, [], ◌∷◌, ◌++◌, length, get_or, take, Some, false, inl, inr, refl, sym, ap, subst, ◌∙◌}
 use Rattle.std.specs.List.{Any, Contains, slice_get}
 use Rattle.std.proofs.lemmas.List.{take_more, take_all}
 use Rattle.std.proofs.lemmas.Option.{get_or_from_slice_get, same_Some, slice_get-get_or, slice_get_within}
@@ -8,7 +8,7 @@ use Rattle.otp_model.specs.declared.timetable.Point.{Point}
 use Rattle.otp_model.specs.declared.timetable.Stop.{Stop}
 use Rattle.otp_model.specs.Plane.{point_of, square_apart}
 use Rattle.otp_base.specs.Adds.{FromSome}
-use Rattle.walk_table.specs.Edges.{AreNear, Holds}
+use Rattle.walk_table.specs.Edges.{AreNear}
 use Rattle.walk_table.specs.Passed.{Counts, HasMeantPoint, HoldsSomewhere, AreBothFilled, IsNear, IsNearSome}
 use Rattle.walk_table.specs.Reaches.{IsChildPoint}
 use Rattle.walk_table.proofs.ReachLemmas.{Contains-one}
@@ -17,16 +17,16 @@ use Rattle.walk_table.proofs.RowLemmas.{any_of, of_any}
 counts_push_other : {X : Type 0} (P : X → Type 0) (xs : List X) (x : X) (n : ℕ) → (P x → ⊥) → Counts P xs n → Counts P (xs ++ x ∷ []) n
 counts_push_other P [] x n never h = inl (never, h)
 counts_push_other P (z ∷ xs) x n never h = elim h [
-    | inl a ↦ inl (a.0, counts_push_other P xs x n never a.1)
-    | inr a ↦ inr (a.0, (a.1.0, a.1.1, counts_push_other P xs x a.1.0 never a.1.2))
-  ]
+  | inl a ↦ inl (a.0, counts_push_other P xs x n never a.1)
+  | inr a ↦ inr (a.0, (a.1.0, a.1.1, counts_push_other P xs x a.1.0 never a.1.2))
+]
 
 counts_push_one : {X : Type 0} (P : X → Type 0) (xs : List X) (x : X) (n : ℕ) → P x → Counts P xs n → Counts P (xs ++ x ∷ []) (n + 1)
 counts_push_one P [] x n p h = inr (p, (0, omega (arith, h), refl))
 counts_push_one P (z ∷ xs) x n p h = elim h [
-    | inl a ↦ inl (a.0, counts_push_one P xs x n p a.1)
-    | inr a ↦ inr (a.0, (a.1.0 + 1, omega (arith, a.1.1), counts_push_one P xs x a.1.0 p a.1.2))
-  ]
+  | inl a ↦ inl (a.0, counts_push_one P xs x n p a.1)
+  | inr a ↦ inr (a.0, (a.1.0 + 1, omega (arith, a.1.1), counts_push_one P xs x a.1.0 p a.1.2))
+]
 
 pub counts_other : {X : Type 0} (P : X → Type 0) (xs : List X) (i n : ℕ) (d : X) → i < length xs → (P (get_or xs i d) → ⊥) → Counts P (take i xs) n → Counts P (take (i + 1) xs) n
 counts_other P xs i n d l never h = rw (take_more xs i d l) (counts_push_other P (take i xs) (get_or xs i d) n never h)
@@ -70,17 +70,17 @@ meant_children stops named place points e k is p = (
 -- no stop is meant by one of another kind
 pub meant_other : (stops : List Stop) (named : ℕ) (place : Stop) (p : Point) → slice_get stops named ≡ Some place → place.kind ≢ 0 → place.kind ≢ 1 → HasMeantPoint stops (Some named) p → ⊥
 meant_other stops named place p e k l h = elim h.meant.1 [
-    | inl self ↦ (let same : h.stop ≡ place = same_Some h.stop place (sym h.stop_is ∙ subst (λ (n : ℕ). slice_get stops n ≡ Some place) self e) in
-        k (ap (λ (s : Stop). s.kind) (sym same) ∙ h.meant.0))
-    | inr child ↦ l (ap (λ (s : Stop). s.kind) (same_Some place child.1.0 (sym e ∙ child.1.1)) ∙ child.1.2)
-  ]
+  | inl self ↦ (let same : h.stop ≡ place = same_Some h.stop place (sym h.stop_is ∙ subst (λ (n : ℕ). slice_get stops n ≡ Some place) self e) in
+      k (ap (λ (s : Stop). s.kind) (sym same) ∙ h.meant.0))
+  | inr child ↦ l (ap (λ (s : Stop). s.kind) (same_Some place child.1.0 (sym e ∙ child.1.1)) ∙ child.1.2)
+]
 
 -- no stop is meant by a number past the list
 pub meant_past : (stops : List Stop) (named : ℕ) (p : Point) → length stops ≤ named → HasMeantPoint stops (Some named) p → ⊥
 meant_past stops named p l h = elim h.meant.1 [
-    | inl self ↦ (let m = slice_get_within stops h.n h.stop h.stop_is in absurd (omega arith))
-    | inr child ↦ (let m = slice_get_within stops named child.1.0 child.1.1 in absurd (omega arith))
-  ]
+  | inl self ↦ (let m = slice_get_within stops h.n h.stop h.stop_is in absurd (omega arith))
+  | inr child ↦ (let m = slice_get_within stops named child.1.0 child.1.1 in absurd (omega arith))
+]
 
 -- the row holds for some pair where some two points are near
 pub somewhere_near : (stops : List Stop) (row : TransferRow) (from to : List Point) → row.narrow ≡ false → row.kind ≤ 3 → row.kind ≢ 3 → ((p : Point) → Contains from p ↔ HasMeantPoint stops row.from p) → ((p : Point) → Contains to p ↔ HasMeantPoint stops row.to p) → Any (IsNearSome to) from ↔ HoldsSomewhere stops row

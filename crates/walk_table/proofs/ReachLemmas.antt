@@ -1,5 +1,5 @@
 -- The points of places, and what is reached from them.
-use Rattle.std.proofs.Common.{arith, ◌≡◌, ◌≢◌, ◌↔◌, ℕ, ◌<◌, ◌≤◌, List, [], ◌∷◌, ◌++◌, ◌+◌, length, get_or, Option, refl, sym, ap, subst, ◌∙◌, inl, inr, Some, None}
+use Rattle.std.proofs.Common.{arith, ◌≡◌, ◌≢◌, ◌↔◌, ℕ, ◌<◌, ◌≤◌, List, [], ◌∷◌, length, get_or, refl, sym, ap, subst, ◌∙◌, inl, inr, Some, None}
 use Rattle.std.specs.List.{Contains, slice_get}
 use Rattle.std.proofs.lemmas.Option.{slice_get_within, same_Some}
 use Rattle.otp_model.specs.declared.timetable.Point.{Point}
@@ -40,9 +40,9 @@ has_own stops named place e k = (place, record { place = place; place_is = e; st
 -- the points of a station
 pub child_of : (stops : List Stop) (named : ℕ) (place : Stop) (p : Point) → slice_get stops named ≡ Some place → place.kind ≡ 1 → HasPoint stops (AtStop named) p → FromSome (IsChildPoint named) stops p
 child_of stops named place p e k h = elim h.1.stands [
-    | inl own ↦ absurd (own.0 (subst (λ (s : Stop). s.kind ≡ 1) (same_Some place h.1.place (sym e ∙ h.1.place_is)) k))
-    | inr station ↦ (h.0, station.1.on, (station.1.kind, station.1.parent, h.2))
-  ]
+  | inl own ↦ absurd (own.0 (subst (λ (s : Stop). s.kind ≡ 1) (same_Some place h.1.place (sym e ∙ h.1.place_is)) k))
+  | inr station ↦ (h.0, station.1.on, (station.1.kind, station.1.parent, h.2))
+]
 
 pub has_child : (stops : List Stop) (named : ℕ) (place : Stop) (p : Point) → slice_get stops named ≡ Some place → place.kind ≡ 1 → FromSome (IsChildPoint named) stops p → HasPoint stops (AtStop named) p
 has_child stops named place p e k h = (h.0, record { place = place; place_is = e; stands = inr (k, record { on = h.1; kind = h.2.0; parent = h.2.1 }) }, h.2.2)

@@ -1,7 +1,7 @@
 -- The edges between stops, and which rows of `transfers.txt` of the GTFS Schedule reference (`transfer_type`,
 -- `min_transfer_time`) hold for which pairs of stops. That a walk is possible within reach, and that rows hold
 -- up to 5,000,000 mm alone, are this project's own.
-use Rattle.std.specs.Prelude.{◌≡◌, ◌≢◌, ◌⊎◌, ℕ, ◌*◌, ◌<◌, ◌≤◌, ◌+◌, List, [], ◌∷◌, Option, Some, None, false, if◌then◌else◌, ◌==◌, length, slice_get, sum_by}
+use Rattle.std.specs.Prelude.{◌≡◌, ◌≢◌, ◌⊎◌, ℕ, ◌*◌, ◌<◌, ◌≤◌, List, Option, Some, None, false, if◌then◌else◌, ◌==◌, length, slice_get, sum_by}
 use Rattle.std.specs.List.{AllPairs, Contains}
 use Rattle.otp_model.specs.declared.links.TransferRow.{TransferRow}
 use Rattle.otp_model.specs.declared.timetable.Edge.{Edge}

@@ -1,5 +1,5 @@
 -- The transfer rows that hold for the ways from one stop, and what of them a stop finds that they lead to.
-use Rattle.std.specs.Prelude.{◌≡◌, ℕ, ◌*◌, ◌≤◌, ◌⊎◌, false, List}
+use Rattle.std.specs.Prelude.{◌≡◌, ℕ, ◌≤◌, ◌⊎◌, false, List}
 use Rattle.std.specs.List.{Any, Contains}
 use Rattle.otp_model.specs.declared.links.TransferRow.{TransferRow}
 use Rattle.otp_model.specs.declared.timetable.Edge.{Edge}

@@ -92,12 +92,7 @@ fn walk_into_stop(edges: &Edges, p: &Point, named: StopNo, place: &Stop) -> Opti
     walk_between(&edges.profile, p, &place.point())
 }
 
-fn walk_into_children(
-    profile: &Profile,
-    p: &Point,
-    station: StopNo,
-    stops: &[Stop],
-) -> Option<u32>
+fn walk_into_children(profile: &Profile, p: &Point, station: StopNo, stops: &[Stop]) -> Option<u32>
     requires reach { profile.now.reach ≤ 5000000 }
     requires speed { 0 < profile.now.speed }
     ensures { IsLeast (FromSome (IsWalkIntoChild profile.now p.now station) stops.now) result }

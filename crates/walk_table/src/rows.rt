@@ -65,12 +65,7 @@ fn bars(stops: &[Stop], number: StopNo, stop: &Stop, row: &TransferRow) -> bool
 }
 
 /// The greatest of the least times of the rows that lead to the stop, 0 where there is none.
-pub fn greatest_minimum(
-    stops: &[Stop],
-    rows: &[TransferRow],
-    number: StopNo,
-    stop: &Stop,
-) -> u32
+pub fn greatest_minimum(stops: &[Stop], rows: &[TransferRow], number: StopNo, stop: &Stop) -> u32
     ensures { IsGreatest (FromSome (IsMinimum stops.now number stop.now) rows.now) result }
 {
     let mut greatest: u32 = 0;

@@ -1,5 +1,5 @@
-use Rattle.std.proofs.Common.{arith, ◌≡◌, ◌↔◌, ◌≤◌, length, List, refl, Some, subst}
-use Rattle.std.specs.List.{Contains, slice_get}
+use Rattle.std.proofs.Common.{arith, ◌≡◌, List, refl, Some, subst}
+use Rattle.std.specs.List.{slice_get}
 use Rattle.std.proofs.lemmas.Option.{slice_get_read}
 use Rattle.std.proofs.lemmas.Result.{err_from_is_err_and}
 use Rattle.otp_model.specs.declared.links.TransferRow.{TransferRow}

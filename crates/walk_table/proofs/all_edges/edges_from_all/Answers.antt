@@ -1,8 +1,4 @@
-use Rattle.std.proofs.Common.{arith, ◌≡◌, List, sym, subst}
-use Rattle.std.proofs.lemmas.List.{length_push}
-use Rattle.std.proofs.lemmas.List.Sums.{sum_by_push}
 use Rattle.std.proofs.lemmas.Result.{err_from_is_err_and}
-use Rattle.otp_model.specs.declared.timetable.Edge.{Edge}
 use Rattle.walk_table.proofs.EdgeLemmas.{cause_all, lists_more}
 use Rattle.walk_table.proofs.all_edges.edges_from_all.Goals as goal
 
