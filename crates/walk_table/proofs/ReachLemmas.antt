@@ -1,11 +1,6 @@
 -- The points of places, and what is reached from them.
-use Rattle.std.proofs.Common.{arith, ◌≡◌, ◌≢◌, ◌↔◌, ℕ, ◌<◌, ◌≤◌, List, [], ◌∷◌, ◌++◌, ◌+◌, length, get_or, Option, refl, sym, ap, subst, ◌∙◌, inl, inr, Some, None}
+use Rattle.std.proofs.Common.{arith, ◌≡◌, ◌≢◌, ◌↔◌, ℕ, ◌<◌, ◌≤◌, List, [], ◌∷◌, length, get_or, refl, sym, ap, subst, ◌∙◌, inl, inr, Some, None}
 use Rattle.std.specs.List.{Contains, slice_get}
-use Rattle.std.specs.List.{All, AllPairs}
-use Rattle.std.specs.Option.{option_to_list}
-use Rattle.std.proofs.lemmas.List.{append-nil}
-use Rattle.std.proofs.lemmas.List.Elements.{All-push, All-weaker}
-use Rattle.std.proofs.lemmas.List.Quantifiers.{all_pairs_push}
 use Rattle.std.proofs.lemmas.Option.{slice_get_within, same_Some}
 use Rattle.otp_model.specs.declared.timetable.Point.{Point}
 use Rattle.otp_model.specs.declared.timetable.Stop.{Stop}
@@ -20,7 +15,7 @@ use Rattle.otp_base.proofs.AddsLemmas.{adds_as, Contains-adds}
 use Rattle.walk_table.specs.Walks.{IsLeastWalk}
 use Rattle.walk_table.specs.Reaches.{AreReached, IsChildPoint, IsReachAt, IsReachOf}
 
-Contains-one : {X : Type 0} (a x : X) → Contains (a ∷ []) x ↔ (x ≡ a)
+pub Contains-one : {X : Type 0} (a x : X) → Contains (a ∷ []) x ↔ (x ≡ a)
 Contains-one {X} a x = (
   (λ k. let z : k.0 ≡ 0 = omega (arith, k.1) in sym (subst (λ (i : ℕ). get_or (a ∷ []) i x ≡ x) z k.2)),
   (λ e. (0, omega arith, sym e)),
@@ -30,26 +25,40 @@ Contains-one {X} a x = (
 pub points_at : (stops : List Stop) (point : Point) (ps : List Point) → ps ≡ point ∷ [] → (p : Point) → Contains ps p ↔ HasPoint stops (AtPoint point.x point.y) p
 points_at stops point ps e p = rw e (Contains-one point p)
 
+-- the one point of a stop that is no station
+pub own_point : (stops : List Stop) (named : ℕ) (place : Stop) (p : Point) → slice_get stops named ≡ Some place → place.kind ≢ 1 → HasPoint stops (AtStop named) p → p ≡ point_of place
+own_point stops named place p e k h =
+    let same : h.1.place ≡ place = same_Some h.1.place place (sym h.1.place_is ∙ e) in
+    elim h.1.stands [
+      | inl own ↦ h.2 ∙ ap point_of (own.1 ∙ same)
+      | inr station ↦ absurd (k (subst (λ (s : Stop). s.kind ≡ 1) same station.0))
+    ]
+
+pub has_own : (stops : List Stop) (named : ℕ) (place : Stop) → slice_get stops named ≡ Some place → place.kind ≢ 1 → HasPoint stops (AtStop named) (point_of place)
+has_own stops named place e k = (place, record { place = place; place_is = e; stands = inl (k, refl) }, refl)
+
+-- the points of a station
+pub child_of : (stops : List Stop) (named : ℕ) (place : Stop) (p : Point) → slice_get stops named ≡ Some place → place.kind ≡ 1 → HasPoint stops (AtStop named) p → FromSome (IsChildPoint named) stops p
+child_of stops named place p e k h = elim h.1.stands [
+  | inl own ↦ absurd (own.0 (subst (λ (s : Stop). s.kind ≡ 1) (same_Some place h.1.place (sym e ∙ h.1.place_is)) k))
+  | inr station ↦ (h.0, station.1.on, (station.1.kind, station.1.parent, h.2))
+]
+
+pub has_child : (stops : List Stop) (named : ℕ) (place : Stop) (p : Point) → slice_get stops named ≡ Some place → place.kind ≡ 1 → FromSome (IsChildPoint named) stops p → HasPoint stops (AtStop named) p
+has_child stops named place p e k h = (h.0, record { place = place; place_is = e; stands = inr (k, record { on = h.1; kind = h.2.0; parent = h.2.1 }) }, h.2.2)
+
 -- the point of a stop that is no station
 pub points_own : (stops : List Stop) (named : ℕ) (place : Stop) (ps : List Point) → slice_get stops named ≡ Some place → place.kind ≢ 1 → ps ≡ point_of place ∷ [] → (p : Point) → Contains ps p ↔ HasPoint stops (AtStop named) p
 points_own stops named place ps e k is p = (
-  (λ c. (place, record { place = place; place_is = e; stands = inl (k, refl) }, (Contains-one (point_of place) p).0 (rw is at c))),
-  (λ h. let same : h.1.place ≡ place = same_Some h.1.place place (sym h.1.place_is ∙ e) in
-      rw is ((Contains-one (point_of place) p).1 (elim h.1.stands [
-        | inl own ↦ h.2 ∙ ap point_of (own.1 ∙ same)
-        | inr station ↦ absurd (k (subst (λ (s : Stop). s.kind ≡ 1) same station.0))
-      ]))),
+  (λ c. subst (λ (z : Point). HasPoint stops (AtStop named) z) (sym ((Contains-one (point_of place) p).0 (rw is at c))) (has_own stops named place e k)),
+  (λ h. rw is ((Contains-one (point_of place) p).1 (own_point stops named place p e k h))),
 )
 
 -- the points of a station are those of its children
 pub points_children : (stops : List Stop) (named : ℕ) (place : Stop) (ps : List Point) → slice_get stops named ≡ Some place → place.kind ≡ 1 → ((p : Point) → Contains ps p ↔ FromSome (IsChildPoint named) stops p) → (p : Point) → Contains ps p ↔ HasPoint stops (AtStop named) p
 points_children stops named place ps e k is p = (
-  (λ c. let h = (is p).0 c in
-      (h.0, record { place = place; place_is = e; stands = inr (k, record { on = h.1; kind = h.2.0; parent = h.2.1 }) }, h.2.2)),
-  (λ h. (is p).1 (elim h.1.stands [
-    | inl own ↦ absurd (own.0 (subst (λ (s : Stop). s.kind ≡ 1) (same_Some place h.1.place (sym e ∙ h.1.place_is)) k))
-    | inr station ↦ (h.0, station.1.on, (station.1.kind, station.1.parent, h.2))
-  ])),
+  (λ c. has_child stops named place p e k ((is p).0 c)),
+  (λ h. (is p).1 (child_of stops named place p e k h)),
 )
 
 -- a stop that is reached at a place of the list is reached, and the other way round
@@ -116,22 +125,3 @@ reached_all edges place points n ys exact l a reach = (there, back)
     back r =
         let m : reach.stop < length edges.stops = slice_get_within edges.stops reach.stop r.at r.at_is in
         set.1 (reach.stop, omega arith, (r.at, r.at_is, (reached_at edges place points reach.stop r.at reach exact r.at_is).1 (refl, r)))
-
--- the reaches rise, and those so far stand below n
-pub record IsRisingTo (n : ℕ) (list : List Reach) : Type 0 where
-  pub rises : AllPairs (λ a b. a.stop < b.stop) list
-  pub below : All (λ reach. reach.stop < n) list
-
-pub rising_none : (n : ℕ) → IsRisingTo n []
-rising_none n = record { rises = λ i j d l m. absurd (omega arith); below = λ i d l. absurd (omega arith) }
-
--- what the stop with the number n adds stands above
-pub rising_more : (profile : Profile) (points : List Point) (n : ℕ) (stop : Stop) (xs ys : List Reach) (o : Option Reach) → ys ≡ xs ++ option_to_list o → IsOnly (IsReachAt profile points n stop) o → IsRisingTo n xs → IsRisingTo (n + 1) ys
-rising_more profile points n stop xs ys None e only h =
-    rw (e, append-nil xs) record { rises = h.rises; below = All-weaker (λ (x : Reach). x.stop < n) (λ (x : Reach). x.stop < n + 1) (λ x l. omega arith) xs h.below }
-rising_more profile points n stop xs ys (Some y) e only h =
-    let at : y.stop ≡ n = only.0.1 in
-    rw e record {
-      rises = all_pairs_push (λ (a : Reach) (b : Reach). a.stop < b.stop) xs y h.rises (λ k d l. let m = h.below k d l in omega arith);
-      below = All-push (λ (x : Reach). x.stop < n + 1) xs y (All-weaker (λ (x : Reach). x.stop < n) (λ (x : Reach). x.stop < n + 1) (λ x l. omega arith) xs h.below) (omega arith);
-    }

@@ -12,7 +12,7 @@ use Rattle.walk_table.specs.Walks.{IsWalkTo, lesser, IsLeastWalk}
 use Rattle.std.proofs.Math.Nat.{mul-le-mul}
 
 -- squares rise
-squares : (a b : ℕ) → a ≤ b → a * a ≤ b * b
+pub squares : (a b : ℕ) → a ≤ b → a * a ≤ b * b
 squares a b h = mul-le-mul h h
 
 pub roots : (a b : ℕ) → a * a < b * b → a < b
@@ -23,7 +23,7 @@ pub beyond : (reach a b : ℕ) → (reach < a) ⊎ (reach < b) → reach * reach
 beyond reach a b (inl l) = let k = squares (reach + 1) a (omega arith) in omega arith
 beyond reach a b (inr l) = let k = squares (reach + 1) b (omega arith) in omega arith
 
-same_distance : (n d e : ℕ) → IsDistance n d → IsDistance n e → d ≡ e
+pub same_distance : (n d e : ℕ) → IsDistance n d → IsDistance n e → d ≡ e
 same_distance n d e h k = let a = h.least e k.enough in let b = k.least d h.enough in omega arith
 
 pub same_walk : (profile : Profile) (p q : Point) (s t : ℕ) → IsWalkTo profile p q s → IsWalkTo profile p q t → s ≡ t

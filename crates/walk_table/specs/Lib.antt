@@ -1,2 +1,7 @@
 pub mod Walks
 pub mod Reaches
+pub mod Edges
+pub mod Faults
+pub mod Rows
+pub mod Passed
+pub mod Direct

@@ -84,7 +84,7 @@ fn stop_points(
     one_point(alloc, place.point())
 }
 
-fn child_points(alloc: Global, station: StopNo, stops: &[Stop]) -> Result<Vec<Point>, Memory>
+pub fn child_points(alloc: Global, station: StopNo, stops: &[Stop]) -> Result<Vec<Point>, Memory>
     ensures { IfOk result (λ points. (p : _) → Contains points.items p ↔ FromSome (IsChildPoint station) stops.now p) }
 {
     let mut points = Vec::new(alloc);
@@ -95,7 +95,7 @@ fn child_points(alloc: Global, station: StopNo, stops: &[Stop]) -> Result<Vec<Po
 }
 
 /// The point of a stop or platform, if it is a child of the station.
-fn child_point(station: StopNo, stop: &Stop) -> Option<Point>
+pub fn child_point(station: StopNo, stop: &Stop) -> Option<Point>
     ensures { IsOnly (IsChildPoint station stop.now) result }
 {
     if stop.kind != 0 {
@@ -107,7 +107,7 @@ fn child_point(station: StopNo, stop: &Stop) -> Option<Point>
     }
 }
 
-fn one_point(alloc: Global, point: Point) -> Result<Vec<Point>, Memory>
+pub fn one_point(alloc: Global, point: Point) -> Result<Vec<Point>, Memory>
     ensures { IfOk result (λ points. points.items ≡ point ∷ []) }
 {
     let mut points = Vec::new(alloc);

@@ -1,12 +1,15 @@
 ghost use Rattle.std.specs.Prelude.{◌≡◌, ◌*◌, ◌^◌, ◌<◌, ◌≤◌, MatchOption};
 ghost use Rattle.otp_model.specs.Plane.{square_apart, IsDistance};
 ghost use Rattle.otp_base.specs.Adds.{IsOnly};
-ghost use Rattle.walk_table.specs.Walks.{IsWalkTo, lesser, IsLeastWalk};
+ghost use Rattle.walk_table.specs.Walks.{IsWalkOver, IsWalkTo, lesser, IsLeastWalk};
 
 use otp_model::{Point, Profile};
 
+/// How far a row of `transfers.txt` reaches and walks may, in millimetres.
+pub const FARTHEST: u64 = 5_000_000;
+
 /// The square of the distance of two points, if they are within reach.
-fn square_within(reach: u64, p: &Point, q: &Point) -> Option<u64>
+pub fn square_within(reach: u64, p: &Point, q: &Point) -> Option<u64>
     requires { reach ≤ 5000000 }
     ensures { MatchOption result (reach * reach < square_apart p.now q.now) (λ square. (square ≡ square_apart p.now q.now) × (square ≤ reach * reach)) }
 {
@@ -30,18 +33,26 @@ fn distance(square: u64) -> u64
     if root * root < square { root + 1 } else { root }
 }
 
+/// The seconds of a walk over a distance with this square.
+pub fn seconds_over(speed: u32, square: u64) -> u32
+    requires speed { 0 < speed }
+    requires square { square ≤ 2 ^ 46 }
+    ensures { IsWalkOver speed square result }
+{
+    distance(square).div_ceil(u64::from(speed)) as u32
+}
+
 /// The seconds of a walk between two points, if they are within reach.
-fn walk_between(profile: &Profile, p: &Point, q: &Point) -> Option<u32>
+pub fn walk_between(profile: &Profile, p: &Point, q: &Point) -> Option<u32>
     requires reach { profile.now.reach ≤ 5000000 }
     requires speed { 0 < profile.now.speed }
     ensures { IsOnly (IsWalkTo profile.now p.now q.now) result }
 {
     let square = square_within(u64::from(profile.reach), p, q)?;
-    let seconds = distance(square).div_ceil(u64::from(profile.speed));
-    Some(seconds as u32)
+    Some(seconds_over(profile.speed, square))
 }
 
-fn lesser(a: Option<u32>, b: Option<u32>) -> Option<u32>
+pub fn lesser(a: Option<u32>, b: Option<u32>) -> Option<u32>
     ensures { result ≡ lesser a b }
 {
     match (a, b) {

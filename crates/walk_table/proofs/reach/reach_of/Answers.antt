@@ -5,9 +5,11 @@ use Rattle.otp_model.specs.declared.timetable.Point.{Point}
 use Rattle.otp_model.specs.declared.timetable.Stop.{Stop}
 use Rattle.otp_model.specs.Plane.{HasPoint}
 use Rattle.otp_base.specs.Adds.{Adds, IsOnly, FromBelow}
+use Rattle.walk_table.specs.declared.reach.Reach.{Reach}
 use Rattle.walk_table.specs.Reaches.{IsReachAt, IsReachOf}
 use Rattle.otp_base.proofs.AddsLemmas.{adds_more_below, adds_option}
-use Rattle.walk_table.proofs.ReachLemmas.{adds_reach, reached_all, rising_more}
+use Rattle.walk_table.proofs.ReachLemmas.{adds_reach, reached_all}
+use Rattle.walk_table.proofs.RisingLemmas.{rising_more}
 use Rattle.walk_table.proofs.reach.reach_of.Goals as goal
 
 pub loop-n-preserved : goal.loop-n-preserved
@@ -22,7 +24,7 @@ loop-n-preserved c =
     record {
       reached = adds_more_below (IsReachOf profile points stops) n [] _ _ c.loop-n.invariant.reached
           (adds_reach profile points stops n stop _ _ at (adds_option (IsReachAt profile points n stop) _ _ c.reach_at.result c.in_ok-push_some.ensures only));
-      rising = rising_more profile points n stop _ _ c.reach_at.result c.in_ok-push_some.ensures only c.loop-n.invariant.rising;
+      rising = rising_more (λ (reach : Reach). reach.stop) n (IsReachAt profile points n stop) _ _ c.reach_at.result (λ x h. h.1) c.in_ok-push_some.ensures only c.loop-n.invariant.rising;
     }
 
 pub returns-clause-reached : goal.returns-clause-reached

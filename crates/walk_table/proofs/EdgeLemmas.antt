@@ -1,0 +1,174 @@
+-- The edges from a stop.
+use Rattle.std.proofs.Common.{arith, ◌≡◌, ◌↔◌, ℕ, ◌*◌, ◌+◌, ◌-◌, ◌<◌, ◌≤◌, List, [], ◌∷◌, ◌++◌, length, Option, Some, None, ◌⊎◌, inl, inr, refl, sym, ap, subst, ◌∙◌}
+use Rattle.std.specs.List.{Any, Contains, slice_get}
+use Rattle.std.specs.Option.{IsSome}
+use Rattle.std.proofs.lemmas.List.{length_push}
+use Rattle.std.proofs.lemmas.List.Sums.{sum_by_push}
+use Rattle.std.proofs.lemmas.Option.{same_Some, slice_get_within}
+use Rattle.otp_model.specs.declared.links.TransferRow.{TransferRow}
+use Rattle.otp_model.specs.declared.timetable.Edge.{Edge}
+use Rattle.otp_model.specs.declared.timetable.Point.{Point}
+use Rattle.otp_model.specs.declared.timetable.Profile.{Profile}
+use Rattle.otp_model.specs.declared.timetable.Stop.{Stop}
+use Rattle.std.specs.Int.{div_ceil}
+use Rattle.otp_model.specs.Plane.{IsDistance, point_of, square_apart}
+use Rattle.otp_base.specs.Adds.{Adds, FromBelow, FromSome, IsOnly}
+use Rattle.otp_base.proofs.AddsLemmas.{adds_as, adds_more_below, adds_option, Contains-adds}
+use Rattle.walk_table.specs.declared.fault.EdgesFault.{EdgesFault}
+use Rattle.walk_table.specs.declared.fault.EdgesFault.TheVariants.{TooMany, Memory}
+use Rattle.walk_table.specs.Faults.{HasMoreFrom, IsCause, IsCauseFrom, IsOverfull}
+use Rattle.walk_table.specs.Edges.{AreEdgesFrom, AreNear, AreRising, EachAt, edge_count, Holds, HasMinimum, IsEdge, IsEdgeUnder, IsGreatest}
+use Rattle.walk_table.specs.Rows.{Arrives, Bars, IsAmong, IsEdgeTo, IsGiven, IsLeaving, IsMinimum}
+use Rattle.walk_table.specs.Walks.{IsWalkOver}
+use Rattle.walk_table.proofs.ListLemmas.{each_push, each_weaker}
+use Rattle.walk_table.proofs.RisingLemmas.{IsRisingTo, rising_more}
+use Rattle.walk_table.proofs.RowLemmas.{any_of, greatest_as, greatest_same, of_any}
+use Rattle.walk_table.proofs.WalkLemmas.{same_distance}
+
+-- the edge to the stop with this number
+abbrev pub IsEdgeAt : List Stop → List TransferRow → Profile → ℕ → Stop → ℕ → Edge → Type 0
+IsEdgeAt stops rows profile p from n edge = (to : Stop) × (slice_get stops n ≡ Some to) × IsEdgeTo stops rows profile p from n to edge
+
+-- the same rows said in another way
+under_as : (R S : TransferRow → Type 0) (profile : Profile) (p : ℕ) (from to : Stop) (edge : Edge) → ((row : TransferRow) → R row → S row) → ((row : TransferRow) → S row → R row) → IsEdgeUnder R profile p from to edge → IsEdgeUnder S profile p from to edge
+under_as R S profile p from to edge f g h = record {
+  given = elim h.given [ inl e ↦ inl e | inr w ↦ elim w [ inl r ↦ inr (inl r) | inr s ↦ inr (inr (s.0, f s.0 s.1)) ] ];
+  kept = λ row s. h.kept row (g row s);
+  walk = h.walk;
+  minimum = greatest_as (HasMinimum R) (HasMinimum S) edge.minimum (λ m x. (x.0, f x.0 x.1, x.2)) (λ m x. (x.0, g x.0 x.1, x.2)) h.minimum;
+}
+
+-- the rows that were collected are those that hold for the two
+held : (stops : List Stop) (transfers rows : List TransferRow) (p : ℕ) (from : Stop) (q : ℕ) (to : Stop) (row : TransferRow) → ((row : TransferRow) → Contains rows row ↔ FromSome (IsLeaving stops p from) transfers row) → IsAmong stops rows from q to row → Contains transfers row × Holds stops p from q to row
+held stops transfers rows p from q to row exact h =
+    let g = (exact row).0 h.0 in
+    subst (λ (r : TransferRow). Contains transfers r × Holds stops p from q to r) g.2.0 (
+      g.1,
+      record {
+        wide = g.2.1.0;
+        kind = g.2.1.1;
+        leaves = g.2.1.2;
+        arrives = subst (λ (r : TransferRow). Arrives stops q to r) (sym g.2.0) h.1;
+        near = subst (λ (r : TransferRow). (r.kind ≡ 3) ⊎ AreNear from to) (sym g.2.0) h.2;
+      },
+    )
+
+among : (stops : List Stop) (transfers rows : List TransferRow) (p : ℕ) (from : Stop) (q : ℕ) (to : Stop) (row : TransferRow) → ((row : TransferRow) → Contains rows row ↔ FromSome (IsLeaving stops p from) transfers row) → Contains transfers row × Holds stops p from q to row → IsAmong stops rows from q to row
+among stops transfers rows p from q to row exact h =
+    ((exact row).1 (row, h.0, (refl, (h.1.wide, h.1.kind, h.1.leaves))), h.1.arrives, h.1.near)
+
+-- an edge to a stop of the list is an edge from the stop, and the other way round
+pub edge_of : (stops : List Stop) (transfers rows : List TransferRow) (profile : Profile) (p : ℕ) (from : Stop) (n : ℕ) (edge : Edge) → slice_get stops p ≡ Some from → ((row : TransferRow) → Contains rows row ↔ FromSome (IsLeaving stops p from) transfers row) → IsEdgeAt stops rows profile p from n edge → IsEdge stops transfers profile p edge
+edge_of stops transfers rows profile p from n edge e exact h =
+    let at : n ≡ edge.to = sym h.2.0 in
+    record {
+      from = from;
+      from_is = e;
+      to = h.0;
+      to_is = subst (λ (k : ℕ). slice_get stops k ≡ Some h.0) at h.1;
+      under = subst (λ (k : ℕ). IsEdgeUnder (λ row. Contains transfers row × Holds stops p from k h.0 row) profile p from h.0 edge) at
+          (under_as (IsAmong stops rows from n h.0) (λ row. Contains transfers row × Holds stops p from n h.0 row) profile p from h.0 edge
+          (λ row. held stops transfers rows p from n h.0 row exact) (λ row. among stops transfers rows p from n h.0 row exact) h.2.1);
+    }
+
+pub of_edge : (stops : List Stop) (transfers rows : List TransferRow) (profile : Profile) (p : ℕ) (from : Stop) (edge : Edge) → slice_get stops p ≡ Some from → ((row : TransferRow) → Contains rows row ↔ FromSome (IsLeaving stops p from) transfers row) → IsEdge stops transfers profile p edge → IsEdgeAt stops rows profile p from edge.to edge
+of_edge stops transfers rows profile p from edge e exact h =
+    let same : h.from ≡ from = same_Some h.from from (sym h.from_is ∙ e) in
+    let under = subst (λ (f : Stop). IsEdgeUnder (λ row. Contains transfers row × Holds stops p f edge.to h.to row) profile p f h.to edge) same h.under in (
+      h.to,
+      h.to_is,
+      (
+        refl,
+        under_as (λ row. Contains transfers row × Holds stops p from edge.to h.to row) (IsAmong stops rows from edge.to h.to) profile p from h.to edge
+            (λ row. among stops transfers rows p from edge.to h.to row exact) (λ row. held stops transfers rows p from edge.to h.to row exact) under,
+      ),
+    )
+
+minimum_there : (stops : List Stop) (rows : List TransferRow) (from : Stop) (q : ℕ) (to : Stop) → AreNear from to → (m : ℕ) → FromSome (IsMinimum stops q to) rows m → HasMinimum (IsAmong stops rows from q to) m
+minimum_there stops rows from q to near m h = (h.0, (h.1, h.2.0, inr near), h.2.1)
+
+minimum_back : (stops : List Stop) (rows : List TransferRow) (from : Stop) (q : ℕ) (to : Stop) (m : ℕ) → HasMinimum (IsAmong stops rows from q to) m → FromSome (IsMinimum stops q to) rows m
+minimum_back stops rows from q to m h = (h.0, h.1.0, (h.1.1, h.2))
+
+pub edge_some : (stops : List Stop) (rows : List TransferRow) (profile : Profile) (p : ℕ) (from : Stop) (q : ℕ) (to : Stop) (at_from at_to : Point) (square walk minimum : ℕ) → at_from ≡ point_of from → at_to ≡ point_of to → square ≡ square_apart at_from at_to → square ≤ 5000000 * 5000000 → (Any (Bars stops q to) rows → ⊥) → IsGiven stops rows profile p from q to → IsWalkOver profile.speed square walk → IsGreatest (FromSome (IsMinimum stops q to) rows) minimum → IsOnly (IsEdgeTo stops rows profile p from q to) (Some (record { to = q; walk = walk; minimum = minimum }))
+edge_some stops rows profile p from q to at_from at_to square walk minimum is_from is_to is_square close open_ given over least = ((refl, under), same)
+  where
+    apart : square ≡ square_apart (point_of from) (point_of to)
+    apart = subst (λ (a : Point). square ≡ square_apart a (point_of to)) is_from (subst (λ (b : Point). square ≡ square_apart at_from b) is_to is_square)
+
+    near : AreNear from to
+    near = omega (arith, apart)
+
+    under : IsEdgeUnder (IsAmong stops rows from q to) profile p from to (record { to = q; walk = walk; minimum = minimum })
+    under = record {
+      given = elim given [ inl e ↦ inl e | inr w ↦ elim w [ inl r ↦ inr (inl r) | inr a ↦ (let row = of_any (Arrives stops q to) rows a in inr (inr (row.0, (row.1, row.2, inr near)))) ] ];
+      kept = λ row r k. open_ (any_of (Bars stops q to) rows row r.0 (k, r.1));
+      walk = record { distance = over.0; is_distance = subst (λ (n : ℕ). IsDistance n over.0) apart over.1; seconds_are = over.2 };
+      minimum = greatest_as (FromSome (IsMinimum stops q to) rows) (HasMinimum (IsAmong stops rows from q to)) minimum (minimum_there stops rows from q to near) (minimum_back stops rows from q to) least;
+    }
+
+    same : (x : Edge) → IsEdgeTo stops rows profile p from q to x → record { to = q; walk = walk; minimum = minimum } ≡ x
+    same x h =
+        let to_is : q ≡ x.to = sym h.0 in
+        let walk_is : walk ≡ x.walk = under.walk.seconds_are ∙ ap (λ (d : ℕ). div_ceil d profile.speed) (same_distance (square_apart (point_of from) (point_of to)) under.walk.distance h.1.walk.distance under.walk.is_distance h.1.walk.is_distance) ∙ sym h.1.walk.seconds_are in
+        let minimum_is : minimum ≡ x.minimum = greatest_same (HasMinimum (IsAmong stops rows from q to)) minimum x.minimum under.minimum h.1.minimum in
+        λ i. record { to = to_is i; walk = walk_is i; minimum = minimum_is i }
+
+-- the stop with the number adds the edge to it
+pub adds_edge : (stops : List Stop) (rows : List TransferRow) (profile : Profile) (p : ℕ) (from : Stop) (n : ℕ) (to : Stop) (xs ys : List Edge) → slice_get stops n ≡ Some to → Adds (IsEdgeTo stops rows profile p from n to) xs ys → Adds (IsEdgeAt stops rows profile p from n) xs ys
+adds_edge stops rows profile p from n to xs ys e = adds_as (IsEdgeTo stops rows profile p from n to) (IsEdgeAt stops rows profile p from n) xs ys
+    (λ x h. (to, e, h))
+    (λ x h. subst (λ (s : Stop). IsEdgeTo stops rows profile p from n s x) (same_Some h.0 to (sym h.1 ∙ e)) h.2)
+
+-- what was added is edges from the stop
+edges_part : (stops : List Stop) (transfers rows : List TransferRow) (profile : Profile) (p : ℕ) (from : Stop) (n : ℕ) (list : List Edge) → slice_get stops p ≡ Some from → ((row : TransferRow) → Contains rows row ↔ FromSome (IsLeaving stops p from) transfers row) → Adds (FromBelow (IsEdgeAt stops rows profile p from) n) [] list → (edge : Edge) → Contains list edge → IsEdge stops transfers profile p edge
+edges_part stops transfers rows profile p from n list e exact h edge c =
+    let g = (Contains-adds (FromBelow (IsEdgeAt stops rows profile p from) n) list h edge).0 c in
+    edge_of stops transfers rows profile p from g.0 edge e exact g.2
+
+-- all stops were gone through
+pub edges_whole : (stops : List Stop) (transfers rows : List TransferRow) (profile : Profile) (p : ℕ) (from : Stop) (n : ℕ) (list : List Edge) → slice_get stops p ≡ Some from → ((row : TransferRow) → Contains rows row ↔ FromSome (IsLeaving stops p from) transfers row) → length stops ≤ n → Adds (FromBelow (IsEdgeAt stops rows profile p from) n) [] list → IsRisingTo (λ edge. edge.to) n list → AreEdgesFrom stops transfers profile p list
+edges_whole stops transfers rows profile p from n list e exact l h rising = record {
+  rises = rising.rises;
+  has = λ edge is.
+      let below : edge.to < length stops = slice_get_within stops edge.to is.to is.to_is in
+      (Contains-adds (FromBelow (IsEdgeAt stops rows profile p from) n) list h edge).1 (edge.to, omega arith, of_edge stops transfers rows profile p from edge e exact is);
+  only = edges_part stops transfers rows profile p from n list e exact h;
+}
+
+-- one edge more than there is room for
+edges_over : (stops : List Stop) (transfers rows : List TransferRow) (profile : Profile) (p : ℕ) (from : Stop) (n : ℕ) (to : Stop) (room : ℕ) (list : List Edge) (o : Option Edge) → slice_get stops p ≡ Some from → ((row : TransferRow) → Contains rows row ↔ FromSome (IsLeaving stops p from) transfers row) → slice_get stops n ≡ Some to → Adds (FromBelow (IsEdgeAt stops rows profile p from) n) [] list → IsRisingTo (λ edge. edge.to) n list → IsOnly (IsEdgeTo stops rows profile p from n to) o → IsSome o → room ≤ length list → HasMoreFrom room stops transfers profile p
+edges_over stops transfers rows profile p from n to room list None e exact at h rising only some full = absurd (cc some)
+edges_over stops transfers rows profile p from n to room list (Some edge) e exact at h rising only some full = (
+  list ++ edge ∷ [],
+  (rising_more (λ (x : Edge). x.to) n (IsEdgeTo stops rows profile p from n to) list (list ++ edge ∷ []) (Some edge) (λ x g. g.0) refl only rising).rises,
+  edges_part stops transfers rows profile p from (n + 1) (list ++ edge ∷ []) e exact
+      (adds_more_below (IsEdgeAt stops rows profile p from) n [] list (list ++ edge ∷ []) h
+      (adds_edge stops rows profile p from n to list (list ++ edge ∷ []) at (adds_option (IsEdgeTo stops rows profile p from n to) list (list ++ edge ∷ []) (Some edge) refl only))),
+  omega (arith, length_push list edge),
+)
+
+pub cause_from : (stops : List Stop) (transfers rows : List TransferRow) (profile : Profile) (p : ℕ) (from : Stop) (n : ℕ) (to : Stop) (room : ℕ) (list : List Edge) (o : Option Edge) (fault : EdgesFault) → slice_get stops p ≡ Some from → ((row : TransferRow) → Contains rows row ↔ FromSome (IsLeaving stops p from) transfers row) → slice_get stops n ≡ Some to → Adds (FromBelow (IsEdgeAt stops rows profile p from) n) [] list → IsRisingTo (λ edge. edge.to) n list → IsOnly (IsEdgeTo stops rows profile p from n to) o → IsOverfull list o room fault → IsCauseFrom stops transfers profile p room fault
+cause_from stops transfers rows profile p from n to room list o TooMany e exact at h rising only full = edges_over stops transfers rows profile p from n to room list o e exact at h rising only full.0 full.1
+cause_from stops transfers rows profile p from n to room list o Memory e exact at h rising only full = tt
+
+-- the lists so far and one that there is no room for
+pub cause_all : (stops : List Stop) (transfers : List TransferRow) (profile : Profile) (from : List (List Edge)) (p room : ℕ) (fault : EdgesFault) → EachAt (AreEdgesFrom stops transfers profile) from → length from ≡ p → edge_count from + room ≡ 100000000 → IsCauseFrom stops transfers profile p room fault → IsCause stops transfers profile fault
+cause_all stops transfers profile from p room TooMany each whole sum over = record {
+  from = from ++ over.0 ∷ [];
+  rise = each_push (λ n list. AreRising list) from over.0 (each_weaker (AreEdgesFrom stops transfers profile) (λ n list. AreRising list) from (λ n list h. h.rises) each) over.1;
+  are = each_push (λ n list. (edge : Edge) → Contains list edge → IsEdge stops transfers profile n edge) from over.0
+      (each_weaker (AreEdgesFrom stops transfers profile) (λ n list. (edge : Edge) → Contains list edge → IsEdge stops transfers profile n edge) from (λ n list h. h.only) each)
+      (subst (λ (k : ℕ). (edge : Edge) → Contains over.0 edge → IsEdge stops transfers profile k edge) (sym whole) over.2);
+  more = omega (arith, sum_by_push (λ (list : List Edge). length list) from over.0, over.3);
+}
+cause_all stops transfers profile from p room Memory each whole sum over = tt
+
+-- the lists so far and the next one
+pub lists_more : (stops : List Stop) (transfers : List TransferRow) (profile : Profile) (from longer : List (List Edge)) (list : List Edge) (p room : ℕ) → longer ≡ from ++ list ∷ [] → EachAt (AreEdgesFrom stops transfers profile) from → length from ≡ p → edge_count from + room ≡ 100000000 → AreEdgesFrom stops transfers profile p list → length list ≤ room → EachAt (AreEdgesFrom stops transfers profile) longer × (length longer ≡ p + 1) × (edge_count longer + (room - length list) ≡ 100000000)
+lists_more stops transfers profile from longer list p room e each whole sum new few =
+    rw e (
+      each_push (AreEdgesFrom stops transfers profile) from list each (subst (λ (k : ℕ). AreEdgesFrom stops transfers profile k list) (sym whole) new),
+      omega (arith, length_push from list),
+      omega (arith, sum_by_push (λ (l : List Edge). length l) from list),
+    )

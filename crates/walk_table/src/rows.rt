@@ -1,0 +1,114 @@
+ghost use Rattle.std.specs.Prelude.{◌≡◌, ◌↔◌, IsTrue, IfOk, Some};
+ghost use Rattle.std.specs.List.{Any, Contains};
+ghost use Rattle.otp_base.specs.Adds.{FromSome, IsOnly};
+ghost use Rattle.walk_table.specs.Edges.{IsGreatest, IsMeant, IsStation};
+ghost use Rattle.walk_table.specs.Rows.{Arrives, Bars, IsLeaving, IsMinimum};
+
+use otp_base::{Memory, push_some};
+use otp_model::{Stop, StopNo, TransferRow};
+use std::alloc::Global;
+
+/// The rows that may hold for ways from a stop.
+pub fn rows_from(
+    alloc: Global,
+    stops: &[Stop],
+    transfers: &[TransferRow],
+    number: StopNo,
+    stop: &Stop,
+) -> Result<Vec<TransferRow>, Memory>
+    ensures { IfOk result (λ rows. (row : _) → Contains rows.items row ↔ FromSome (IsLeaving stops.now number stop.now) transfers.now row) }
+{
+    let mut rows = Vec::new(alloc);
+    for row in transfers {
+        push_some(&mut rows, leaving(stops, number, stop, row))?;
+    }
+    Ok(rows)
+}
+
+/// The row, if it may hold for ways from the stop.
+fn leaving(stops: &[Stop], number: StopNo, stop: &Stop, row: &TransferRow) -> Option<TransferRow>
+    ensures { IsOnly (IsLeaving stops.now number stop.now row.now) result }
+{
+    if row.narrow || row.kind > 3 {
+        return None;
+    }
+    if !is_meant(stops, row.from, number, stop) {
+        return None;
+    }
+    Some(*row)
+}
+
+/// Whether one of the rows leads to the stop.
+pub fn is_named(stops: &[Stop], rows: &[TransferRow], number: StopNo, stop: &Stop) -> bool
+    ensures { IsTrue result ↔ Any (Arrives stops.now number stop.now) rows.now }
+{
+    rows.iter().any(|row| arrives(stops, number, stop, row))
+}
+
+fn arrives(stops: &[Stop], number: StopNo, stop: &Stop, row: &TransferRow) -> bool
+    ensures { IsTrue result ↔ Arrives stops.now number stop.now row.now }
+{
+    is_meant(stops, row.to, number, stop)
+}
+
+/// Whether one of the rows takes the edge to the stop away.
+pub fn is_barred(stops: &[Stop], rows: &[TransferRow], number: StopNo, stop: &Stop) -> bool
+    ensures { IsTrue result ↔ Any (Bars stops.now number stop.now) rows.now }
+{
+    rows.iter().any(|row| bars(stops, number, stop, row))
+}
+
+fn bars(stops: &[Stop], number: StopNo, stop: &Stop, row: &TransferRow) -> bool
+    ensures { IsTrue result ↔ Bars stops.now number stop.now row.now }
+{
+    row.kind == 3 && arrives(stops, number, stop, row)
+}
+
+/// The greatest of the least times of the rows that lead to the stop, 0 where there is none.
+pub fn greatest_minimum(stops: &[Stop], rows: &[TransferRow], number: StopNo, stop: &Stop) -> u32
+    ensures { IsGreatest (FromSome (IsMinimum stops.now number stop.now) rows.now) result }
+{
+    let mut greatest: u32 = 0;
+    for row in rows {
+        greatest = greatest.max(minimum_to(stops, number, stop, row));
+    }
+    greatest
+}
+
+/// The least time of a row, if it leads to the stop, else 0.
+fn minimum_to(stops: &[Stop], number: StopNo, stop: &Stop, row: &TransferRow) -> u32
+    ensures { IsGreatest (IsMinimum stops.now number stop.now row.now) result }
+{
+    if !arrives(stops, number, stop, row) {
+        return 0;
+    }
+    if row.kind == 2 { row.minimum } else { 0 }
+}
+
+/// Whether a row means the stop with the number by a stop that it names.
+pub fn is_meant(stops: &[Stop], side: Option<StopNo>, number: StopNo, stop: &Stop) -> bool
+    ensures { IsTrue result ↔ IsMeant stops.now side number stop.now }
+{
+    let Some(named) = side else {
+        return false;
+    };
+    if stop.kind != 0 {
+        return false;
+    }
+    if named == number {
+        return true;
+    }
+    match stop.parent {
+        Some(parent) if parent == named => is_station(stops, named),
+        _ => false,
+    }
+}
+
+fn is_station(stops: &[Stop], number: StopNo) -> bool
+    ensures { IsTrue result ↔ IsStation stops.now number }
+{
+    match stops.get(number as usize) {
+        Some(stop) => stop.kind == 1,
+        None => false,
+    }
+}
