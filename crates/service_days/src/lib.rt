@@ -3,13 +3,10 @@
 #![tactic(auto)]
 
 mod local_time;
-
+mod services;
 mod zone;
 
 pub use local_time::{day_start, local_day};
 pub use otp_model::parse_day;
-
+pub use services::active;
 pub use zone::{ZoneFault, zone_of};
-
-
-
