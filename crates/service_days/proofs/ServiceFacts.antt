@@ -6,13 +6,13 @@ use Rattle.std.specs.List.Sorted.{IsStrictlyIncreasing}
 use Rattle.std.specs.Option.{option_map_or}
 use Rattle.std.specs.Str.{bytes_eq}
 use Rattle.std.proofs.lemmas.List.{length-map}
-use Rattle.std.proofs.lemmas.List.Elements.{All-contains, All-filter, All-from_get_or, Contains-append_cases, Contains-append_left, Contains-append_right, Contains-get_or, Contains-push, Contains-push_cases, filter-append, filter_agree, filter_passes}
+use Rattle.std.proofs.lemmas.List.Elements.{All-contains, All-filter, All-from_get_or, Contains-append_cases, Contains-append_left, Contains-append_right, Contains-get_or, Contains-push_cases, filter-append, filter_agree, filter_passes}
 use Rattle.std.proofs.lemmas.List.FromFn.{get_or-range_with_len, length-range_with_len}
 use Rattle.std.proofs.lemmas.List.Kept.{IsStrictlyIncreasing-filter}
 use Rattle.std.proofs.lemmas.Option.{slice_get_within}
 use Rattle.name_index.proofs.SightFacts.{first_sights-shorter, has-first_sights, noted_all, starts_noting}
 use Rattle.name_index.proofs.TestFacts.{bytes_eq-refl, same_bytes}
-use Rattle.otp_model.specs.Services.{service_ids, service_number, services_of}
+use Rattle.otp_model.specs.Services.{service_ids, services_of}
 use Rattle.otp_model.specs.Sights.{first_sights, has_name, is_other, noted, place_of}
 use Rattle.otp_model.specs.declared.tables.CalendarRow.{CalendarRow}
 use Rattle.otp_model.specs.declared.tables.DateRow.{DateRow}
@@ -151,8 +151,9 @@ runs_there tables day id h =
     ∙ (has-either (map (λ (row : CalendarRow). row.service_id) tables.calendars) (map (λ (row : DateRow). row.service_id) tables.dates) id
     ∙ or-one (has_name (map (λ (row : CalendarRow). row.service_id) tables.calendars) id) (has_name (map (λ (row : DateRow). row.service_id) tables.dates) id)
     (elim (either-of (has_name (excepted_ids tables 1 day) id) (has_name (scheduled_ids tables day) id) (has_name (excepted_ids tables 2 day) id) h) [
-      inl added ↦ inr (has-kept (λ (row : DateRow). row.service_id) (excepts 1 day) tables.dates id added)
-    | inr scheduled ↦ inl (has-kept (λ (row : CalendarRow). row.service_id) (schedules day) tables.calendars id scheduled) ]))
+      | inl added ↦ inr (has-kept (λ (row : DateRow). row.service_id) (excepts 1 day) tables.dates id added)
+      | inr scheduled ↦ inl (has-kept (λ (row : CalendarRow). row.service_id) (schedules day) tables.calendars id scheduled)
+    ]))
 
 -- a number is active exactly where it is that of a service that runs
 pub active-number : (tables : Tables) (day : ℤ) (n : ℕ) → is_active tables day n ≡ true → NumbersActive tables day n
@@ -205,9 +206,10 @@ in-range n k below =
 
 -- a number is among those that pass exactly where it passes
 pub contains-passing : (test : List ℕ → Bool) (services : List (List ℕ)) (n : ℕ) → Contains (passing test services) n ↔ IsTrue (passes test services n)
-contains-passing test services n =
-    (λ there. All-contains (λ x. passes test services x ≡ true) (passing test services) n (filter_passes (passes test services) (range_with_len 0 (length services))) there,
-    λ h. kept (passes test services) (range_with_len 0 (length services)) n h (in-range (length services) n (within (slice_get services n) refl h)))
+contains-passing test services n = (
+  λ there. All-contains (λ x. passes test services x ≡ true) (passing test services) n (filter_passes (passes test services) (range_with_len 0 (length services))) there,
+  λ h. kept (passes test services) (range_with_len 0 (length services)) n h (in-range (length services) n (within (slice_get services n) refl h)),
+)
   where
     within : (got : Option (List ℕ)) → slice_get services n ≡ got → option_map_or test got false ≡ true → n < length services
     within None e t = cc t

@@ -1,5 +1,5 @@
 -- Noon of a day as a date and time, and the instants that it may be.
-use Rattle.std.proofs.Common.{◌≡◌, ℕ, ◌+◌, ◌-◌, ◌*◌, ◌≤◌, cond, ◌<◌, ◌^◌, ℤ, pos, negsuc, ◌+ℤ◌, ◌-ℤ◌, ◌*ℤ◌, ◌≤ℤ◌, Option, None, Some, refl, sym, ap, ◌∙◌, arith, FitsSigned, w32, w64, to_z, of_z}
+use Rattle.std.proofs.Common.{◌≡◌, ℕ, ◌-◌, cond, ℤ, pos, ◌+ℤ◌, ◌-ℤ◌, ◌*ℤ◌, Option, None, Some, refl, sym, ap, ◌∙◌, arith, w64, to_z, of_z}
 use Rattle.std.proofs.lemmas.Int.{ints}
 use Rattle.std.specs.Int.{int_div_euclid}
 use Rattle.jiff_core.proofs.SignedLemmas.{signed_arith}
@@ -7,11 +7,11 @@ use Rattle.jiff_core.specs.Calendar.{IsWithin}
 use Rattle.jiff_core.specs.Date.{epoch_day}
 use Rattle.jiff_core.specs.DateTime.{civil_nanos, civil_seconds}
 use Rattle.jiff_core.specs.Time.{time_seconds}
-use Rattle.jiff_core.specs.Timestamp.{IsOffsetSeconds, IsTimestampNanos, nanos_of_seconds}
+use Rattle.jiff_core.specs.Timestamp.{IsTimestampNanos, nanos_of_seconds}
 use Rattle.jiff_core.specs.declared.Offset.{Offset}
 use Rattle.jiff_core.specs.declared.civil.datetime.DateTime.{DateTime}
 use Rattle.jiff_tz.proofs.YearLemmas.{year_of_day-date}
-use Rattle.jiff_tz.specs.Ambiguous.{compatible_offset, instant_of}
+use Rattle.jiff_tz.specs.Ambiguous.{instant_of}
 use Rattle.jiff_tz.specs.PosixRule.{ambiguous_at as ambiguous_by_rule, ambiguous_at_by, ambiguous_by, match_some, rule_nanos}
 use Rattle.jiff_tz.specs.Tzif as Tables
 use Rattle.jiff_tz.specs.Year.{year_of_day}

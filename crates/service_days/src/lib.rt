@@ -10,3 +10,6 @@ pub use local_time::{day_start, local_day};
 pub use otp_model::parse_day;
 pub use services::active;
 pub use zone::{ZoneFault, zone_of};
+
+#[cfg(test)]
+mod tests;

@@ -5,6 +5,7 @@ ghost use Rattle.service_days.specs.LocalTime.{IsNoon, IsStart, local_day_of, st
 
 use jiff::Timestamp;
 use jiff::civil::{Date, DateTime};
+use jiff::tz::Disambiguation;
 use jiff_core::civil;
 use otp_base::Memory;
 use otp_model::{DayNo, Time, Zone};
@@ -33,7 +34,8 @@ pub fn day_start(zone: &Zone, day: DayNo) -> Result<Time, Memory>
     ensures noon { IfOk result (IsStart zone.now day) }
     ensures near { IfOk result (λ start. IsWithin 93599 (start -ℤ day *ℤ pos 86400)) }
 {
-    let noon = zone.rule.to_timestamp(noon_of(day)).unwrap();
+    let noon = zone.rule.to_ambiguous_timestamp(noon_of(day));
+    let noon = noon.disambiguate(Disambiguation::Compatible).unwrap();
     Ok(noon.to_plain().floor_second() - HALF_DAY)
 }
 

@@ -79,7 +79,12 @@ fn scheduled<'a>(alloc: Global, rows: &'a [CalendarRow], day: DayNo) -> Result<N
 
 /// The services that rows of `calendar_dates.txt` with this `exception_type` name on the day.
 #[tactic(auto, using(name_index::proofs::SightFacts::starts_noting), unfolding(name_index::proofs::SightFacts::noted_all))]
-fn excepted<'a>(alloc: Global, rows: &'a [DateRow], kind: u32, day: DayNo) -> Result<Names<'a>, Memory>
+fn excepted<'a>(
+    alloc: Global,
+    rows: &'a [DateRow],
+    kind: u32,
+    day: DayNo,
+) -> Result<Names<'a>, Memory>
     ensures { IfOk result (λ names. names ≡ first_sights (map (λ (row : DateRow). row.service_id) (filter (excepts kind day) rows.now))) }
 {
     let mut names = Names::new(alloc);

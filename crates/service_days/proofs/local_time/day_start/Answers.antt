@@ -1,4 +1,4 @@
-use Rattle.std.proofs.Common.{◌≡◌, ℤ, pos, ◌-ℤ◌, Ok, sym, ap, subst, ◌∙◌, w32, w64, to_z, of_z}
+use Rattle.std.proofs.Common.{◌≡◌, ℤ, pos, ◌-ℤ◌, Ok, ap, subst, ◌∙◌, w32, w64, to_z, of_z}
 use Rattle.std.proofs.lemmas.Int.{to_z-of_z}
 use Rattle.std.proofs.lemmas.Result.{IfOk-at_ok}
 use Rattle.jiff.specs.ZoneView.{plain_zone}
@@ -6,7 +6,7 @@ use Rattle.jiff_core.specs.declared.Offset.{Offset}
 use Rattle.jiff_core.specs.declared.civil.datetime.DateTime.{DateTime}
 use Rattle.jiff_tz.specs.Ambiguous.{compatible_offset}
 use Rattle.jiff_tz.specs.Zone.{ambiguous_at}
-use Rattle.service_days.specs.LocalTime.{IsNoon, noon_at, start_of}
+use Rattle.service_days.specs.LocalTime.{IsNoon, noon_at}
 use Rattle.service_days.proofs.TimeFacts.{half_day_before, instant-noon, is_instant, near_day, noon_again, offsets-noon, second-noon}
 use Rattle.service_days.proofs.local_time.day_start.Goals as goal
 
@@ -15,12 +15,10 @@ unwrap-noon-requires c =
     let noon : DateTime = c.noon_of.result in
     let is : IsNoon c.args.day noon = subst (λ (d : ℤ). IsNoon d noon) (to_z-of_z w32 c.args.day c.ranges.day) c.noon_of.ensures in
     let offset : Offset = compatible_offset (ambiguous_at (plain_zone c.args.zone.now.rule) noon) in
-    c.to_timestamp.ensures.succeeds.1 (rw (instant-noon offset c.args.day noon is) (is_instant offset c.args.day c.requires))
+    let chosen = rw (c.to_ambiguous_timestamp-noon.ensures.datetime, c.to_ambiguous_timestamp-noon.ensures.offsets) at c.disambiguate.ensures in
+    chosen.succeeds.1 (rw (instant-noon offset c.args.day c.noon_of.result is) (is_instant offset c.args.day c.requires))
 
 module _ (c : goal.After-floor_second) where
-  noon : DateTime
-  noon = c.noon_of.result
-
   abbrev offset : Offset
   offset = compatible_offset (ambiguous_at (plain_zone c.args.zone.now.rule) c.noon_of.result)
 
@@ -30,7 +28,8 @@ module _ (c : goal.After-floor_second) where
   -- the answer, as the code computes it
   start : to_z w64 (of_z w64 (to_z w64 (of_z w64 c.floor_second.result) -ℤ pos 43200)) ≡ (noon_at c.args.day -ℤ offset.seconds) -ℤ pos 43200
   start =
-      let at = IfOk-at_ok _ c.unwrap-noon.ensures c.to_timestamp.ensures.value in
+      let chosen = rw (c.to_ambiguous_timestamp-noon.ensures.datetime, c.to_ambiguous_timestamp-noon.ensures.offsets) at c.disambiguate.ensures in
+      let at = IfOk-at_ok _ c.unwrap-noon.ensures chosen.value in
       let second = second-noon offset c.args.day c.noon_of.result c.to_plain.result.nanosecond c.floor_second.result is (ap (λ t. t.nanosecond) c.to_plain.ensures ∙ at) c.floor_second.ensures in
       half_day_before offset c.args.day c.floor_second.result c.requires second
 

@@ -1,4 +1,4 @@
-use Rattle.std.proofs.Common.{◌≡◌, ℤ, pos, ◌*ℤ◌, ◌-ℤ◌, Ok, Some, refl, ap, ◌∙◌, arith, w32, w64, to_z, of_z, rules, FitsSigned}
+use Rattle.std.proofs.Common.{◌≡◌, pos, refl, ap, ◌∙◌, arith, w32, w64, rules}
 use Rattle.std.proofs.lemmas.Bool.{le-leb}
 use Rattle.std.proofs.lemmas.Int.{to_z-of_z, to_z_pos}
 use Rattle.std.proofs.lemmas.Result.{IfOk-at_ok}
@@ -14,7 +14,7 @@ returns-clause-day c =
     let cast = to_z_pos w64 c.args.instant (omega (arith, c.if-instant-gt-LATEST.false)) in
     let within = le-leb c.args.instant 253402000000 c.if-instant-gt-LATEST.false in
     let at : c.unwrap-instant.result.nanosecond ≡ nanos_of_seconds (pos c.args.instant) =
-        IfOk-at_ok _ c.unwrap-instant.ensures c.from_second.ensures.value ∙ ap nanos_of_seconds cast in
+    IfOk-at_ok _ c.unwrap-instant.ensures c.from_second.ensures.value ∙ ap nanos_of_seconds cast in
     let back = to_z-of_z w32 c.to_unix_epoch_day.result (search rules) in
     let shown = day-seconds c.to_datetime.result c.unwrap-instant.result.nanosecond (pos c.args.instant) (offset_at (plain_zone c.args.zone.now.rule) c.unwrap-instant.result.nanosecond) at c.to_datetime.ensures in
     let day : c.to_unix_epoch_day.result ≡ epoch_day c.to_datetime.result.date = c.to_unix_epoch_day.ensures.value ∙ ap epoch_day (c.to_plain.ensures ∙ c.date-date.ensures) in

@@ -23,7 +23,7 @@ returns c =
     let day : ℤ = c.args.day in
     let whole = active-passing tables day c.in_ok-services.services c.in_ok-added.added c.in_ok-removed.removed c.in_ok-scheduled.scheduled c.in_ok-services.ensures added removed scheduled in
     let is : IfOk c.numbers.result (λ (numbers : List ℕ). numbers ≡ active_services tables day) =
-        IfOk-weaker c.numbers.result (λ (numbers : List ℕ). numbers ≡ passing (runs_by c.in_ok-added.added c.in_ok-removed.removed c.in_ok-scheduled.scheduled) c.in_ok-services.services) (λ (numbers : List ℕ). numbers ≡ active_services tables day) (λ numbers e. e ∙ whole) c.numbers.ensures
+    IfOk-weaker c.numbers.result (λ (numbers : List ℕ). numbers ≡ passing (runs_by c.in_ok-added.added c.in_ok-removed.removed c.in_ok-scheduled.scheduled) c.in_ok-services.services) (λ (numbers : List ℕ). numbers ≡ active_services tables day) (λ numbers e. e ∙ whole) c.numbers.ensures
     in
     record {
       whole = is;

@@ -13,5 +13,6 @@ loop-number-preserved c =
     let test : p c.loop-number.number ≡ c.runs.result = rw got (sym c.runs.ensures) in
     numbers-step p c.loop-number.number c.loop-number.numbers c.if-runs.numbers c.loop-number.invariant
     (elim c.if-runs.branch [
-      then-runs+in_ok-push w ↦ rw (test, w.if-runs.true) (w.numbers-is ∙ w.in_ok-push.ensures.ok)
-    | else-runs w ↦ rw (test, w.if-runs.false) (w.numbers-is ∙ sym (append-nil c.loop-number.numbers)) ])
+      | then-runs+in_ok-push w ↦ rw (test, w.if-runs.true) (w.numbers-is ∙ w.in_ok-push.ensures.ok)
+      | else-runs w ↦ rw (test, w.if-runs.false) (w.numbers-is ∙ sym (append-nil c.loop-number.numbers))
+    ])
