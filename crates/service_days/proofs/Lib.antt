@@ -1,0 +1,2 @@
+pub mod TimeFacts
+pub mod ServiceFacts

@@ -1,0 +1,13 @@
+use Rattle.std.proofs.Common.{◌≡◌, [], ◌++◌, List, ℕ, map, ap, ◌∙◌}
+use Rattle.otp_model.specs.Sights.{first_sights}
+use Rattle.otp_model.specs.declared.tables.CalendarRow.{CalendarRow}
+use Rattle.otp_model.specs.declared.tables.DateRow.{DateRow}
+use Rattle.service_days.proofs.services.services.Goals as goal
+
+pub returns : goal.returns
+unfolding first_sights
+returns c =
+    let calendars : List (List ℕ) = map (λ (row : CalendarRow). row.service_id) c.args.tables.now.calendars in
+    let first : c.note_calendars.new.names ≡ first_sights calendars =
+    c.in_ok-note_calendars.ensures [] c.new-names.ensures ∙ ap (λ (rows : List CalendarRow). first_sights (map (λ (row : CalendarRow). row.service_id) rows)) c.as_slice.ensures in
+    c.in_ok-note_dates.ensures calendars first ∙ ap (λ (rows : List DateRow). first_sights (calendars ++ map (λ (row : DateRow). row.service_id) rows)) c.as_slice-2.ensures
