@@ -1,0 +1,4 @@
+pub mod FaultFacts
+pub mod IndexFacts
+pub mod KeyFacts
+pub mod RuleFacts
