@@ -4,6 +4,7 @@ use Rattle.std.proofs.Common.{◌≡◌, ℕ, ◌+◌, ◌<◌, ◌≤◌, List,
 use Rattle.std.specs.Prelude.{nat_lt}
 use Rattle.std.proofs.lemmas.Bool.{lt-ltb, le-ltb}
 use Rattle.std.proofs.lemmas.List.{append-nil, drop_all, drop_more, length-map, length-take-le, map_more}
+use Rattle.std.specs.List.{filter}
 use Rattle.std.specs.Str.{bytes_eq}
 use Rattle.name_index.proofs.SightFacts.{noted_all, place-below, starts_noting}
 use Rattle.name_index.proofs.TestFacts.{bytes_eq-refl}
@@ -102,6 +103,27 @@ module _ {R : Type 0} (id_of : R → List ℕ) (rows : List R) where
   noted_row i row before now total l e n h =
       let cut : drop i rows ≡ row ∷ drop (i + 1) rows = rw (← e) at (drop_more rows i row l) in
       rw n (rw cut at h)
+
+  -- noting those that pass a test
+  pub noted_kept : (p : R → Bool) (i : ℕ) (row : R) (before now total : List (List ℕ)) → i < length rows → row ≡ get_or rows i row → p row ≡ true → now ≡ noted before (id_of row)
+      → noted_all before (map id_of (filter p (drop i rows))) ≡ total → noted_all now (map id_of (filter p (drop (i + 1) rows))) ≡ total
+  unfolding noted_all
+  noted_kept p i row before now total l e passes n h =
+      let cut : drop i rows ≡ row ∷ drop (i + 1) rows = rw (← e) at (drop_more rows i row l) in
+      rw n (rw (cut, passes) at h)
+
+  pub noted_left_out : (p : R → Bool) (i : ℕ) (row : R) (before total : List (List ℕ)) → i < length rows → row ≡ get_or rows i row → p row ≡ false
+      → noted_all before (map id_of (filter p (drop i rows))) ≡ total → noted_all before (map id_of (filter p (drop (i + 1) rows))) ≡ total
+  noted_left_out p i row before total l e fails h =
+      let cut : drop i rows ≡ row ∷ drop (i + 1) rows = rw (← e) at (drop_more rows i row l) in
+      rw (cut, fails) at h
+
+  pub noted_kept_all : (p : R → Bool) (i : ℕ) (now : List (List ℕ)) → length rows ≤ i → noted_all now (map id_of (filter p (drop i rows))) ≡ noted_all [] (map id_of (filter p rows))
+      → now ≡ first_sights (map id_of (filter p rows))
+  unfolding noted_all
+  noted_kept_all p i now l h =
+      let done : now ≡ noted_all [] (map id_of (filter p rows)) = rw (drop_all i rows l) at h in
+      done ∙ starts_noting (map id_of (filter p rows))
 
 noted_all-append : (seen ids more : List (List ℕ)) → noted_all seen (ids ++ more) ≡ noted_all (noted_all seen ids) more
 unfolding noted_all

@@ -1,14 +1,14 @@
 -- The linked feed, or its first fault: the files' records by the GTFS Schedule reference, ids as numbers in
 -- row order.
-use Rattle.std.specs.Prelude.{◌≡◌, ℕ, ◌+◌, ◌-◌, List, [], ◌∷◌, ◌++◌, length, map, Option, Some, None, Bool, not, ◌&&◌, ◌||◌, false, nat_eq, nat_le, count_by, if◌then◌else◌, Result, Ok, Err, slice_get}
-use Rattle.std.specs.List.{filter}
+use Rattle.std.specs.Prelude.{◌≡◌, ◌≢◌, ℕ, ◌+◌, ◌-◌, List, [], ◌∷◌, ◌++◌, length, map, Option, Some, None, Bool, not, ◌&&◌, ◌||◌, false, nat_eq, nat_le, count_by, if◌then◌else◌, Result, Ok, Err, slice_get}
+use Rattle.std.specs.List.{AllPairs, filter}
 use Rattle.std.specs.Option.{option_to_list}
 use Rattle.std.specs.Str.{bytes_eq}
 use Rattle.otp_model.specs.Plane.{point_at}
 use Rattle.otp_model.specs.Services.{service_ids, services_of}
 use Rattle.otp_model.specs.Sights.{has_name, place_of}
 use Rattle.otp_model.specs.declared.feed_fault.FeedFault.{FeedFault}
-use Rattle.otp_model.specs.declared.feed_fault.FeedFault.TheVariants as feed
+use Rattle.otp_model.specs.declared.feed_fault.FeedFault.TheVariants as answer
 use Rattle.otp_model.specs.declared.links.TimeRow.{TimeRow}
 use Rattle.otp_model.specs.declared.links.TransferRow.{TransferRow}
 use Rattle.otp_model.specs.declared.tables.StopRow.{StopRow}
@@ -18,7 +18,8 @@ use Rattle.otp_model.specs.declared.tables.TransferLine.{TransferLine}
 use Rattle.otp_model.specs.declared.tables.TripRow.{TripRow}
 use Rattle.otp_model.specs.declared.timetable.Stop.{Stop}
 use Rattle.otp_model.specs.declared.timetable.Trip.{Trip}
-use Rattle.gtfs_links.specs.declared.link.Linked.{Linked}
+use Rattle.gtfs_links.specs.declared.indexes.Indexes.{Indexes}
+use Rattle.gtfs_links.specs.declared.feed.Linked.{Linked}
 use Rattle.gtfs_links.specs.declared.wrong.Column.TheVariants as column
 use Rattle.gtfs_links.specs.Faults.{first_of, first_wrong}
 use Rattle.gtfs_links.specs.Index.{id_of_calendar, id_of_route}
@@ -45,6 +46,16 @@ fault_of zone tables =
     (first_of (first_wrong 6 (id_rule id_of_calendar column.ServiceId) [] tables.calendars)
     (first_of (first_wrong 7 date_rule [] tables.dates)
     (first_wrong 8 (transfer_rule (has_name (stop_ids tables))) [] tables.transfers)))))))
+
+abbrev pub IsOtherTrip : TripRow → TripRow → Type 0
+IsOtherTrip a b = a.trip_id ≢ b.trip_id
+
+-- Where no two stops, routes or trips have one id, the place of an id in an index is the number of its row.
+pub record AreNumbers (tables : Tables) (indexes : Indexes) : Type 0 where
+  pub stops : indexes.stops ≡ stop_ids tables
+  pub routes : indexes.routes ≡ route_ids tables
+  pub services : indexes.services ≡ services_of tables
+  pub trips : AllPairs IsOtherTrip tables.trips
 
 -- the number of the record that a field names, where it names one
 abbrev pub number_if : List (List ℕ) → List ℕ → Option ℕ
@@ -137,6 +148,9 @@ transfer_at stops row = record {
 abbrev pub is_unnamed : StopTimeRow → Bool
 is_unnamed row = is_empty row.stop_id
 
+abbrev pub passed_of : Tables → ℕ → ℕ
+passed_of tables kept = count_by is_unnamed tables.stop_times + (length tables.trips - kept)
+
 -- the feed of tables without a fault; passed over are the rows that name no stop, and the trips not kept
 abbrev pub feed_of : ℕ → Tables → Linked
 feed_of scale tables =
@@ -146,7 +160,7 @@ feed_of scale tables =
       trips = map (trip_at (route_ids tables) (services_of tables)) kept;
       times = times_from tables.stops (stop_ids tables) (map id_of_trip kept) 1 tables.stop_times;
       transfers = map (transfer_at (stop_ids tables)) tables.transfers;
-      passed = count_by is_unnamed tables.stop_times + (length tables.trips - length kept);
+      passed = passed_of tables (length kept);
     }
 
 abbrev pub linked_or : Option FeedFault → Linked → Result Linked FeedFault
@@ -158,9 +172,9 @@ unfoldable pub linked_of : Tables → List ℕ → ℕ → Result Linked FeedFau
 linked_of tables zone scale = linked_or (fault_of zone tables) (feed_of scale tables)
 
 abbrev pub FailsAs : {X : Type 0} → FeedFault → Result X FeedFault → Type 0
-FailsAs (feed.At c f r column) linked = linked ≡ Err (feed.At c f r column)
-FailsAs feed.Read linked = ⊥
-FailsAs feed.Memory linked = Unit {0}
+FailsAs (answer.At c f r column) linked = linked ≡ Err (answer.At c f r column)
+FailsAs answer.Read linked = ⊥
+FailsAs answer.Memory linked = Unit {0}
 
 -- a call returned this feed or this fault, unless memory ran out
 abbrev pub Links : {X : Type 0} → Result X FeedFault → Result X FeedFault → Type 0

@@ -7,12 +7,14 @@
 
 mod agencies;
 mod calls;
+mod check;
 mod dates;
+mod feed;
 mod ids;
 mod indexes;
 mod keys;
 mod kept;
-mod link;
+
 mod linked_stops;
 mod linked_times;
 mod linked_transfers;
@@ -22,5 +24,5 @@ mod transfers;
 mod trips;
 mod wrong;
 
-pub use link::Linked;
+pub use feed::{Linked, link};
 pub use otp_model::{TimeRow, TransferRow};

@@ -9,6 +9,7 @@ use otp_model::{StopNo, StopRow, StopTimeRow, TimeRow, TripNo};
 use std::alloc::Global;
 
 /// The stops of a feed with their numbers, and the numbers of the trips kept.
+#[derive(Clone, Copy)]
 pub struct Places<'a> {
     pub rows: &'a [StopRow],
     pub stops: &'a Names<'a>,
