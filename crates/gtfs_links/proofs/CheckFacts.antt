@@ -92,4 +92,4 @@ pub has_services : (tables : Tables) → All (HasService (services_of tables)) t
 has_services tables k d l =
     has-first_sights (service_ids tables) (get_or tables.dates k d).service_id
     ∙ has-append_right (map (λ (row : CalendarRow). row.service_id) tables.calendars) (map (λ (row : DateRow). row.service_id) tables.dates) (get_or tables.dates k d).service_id
-      (has_own (λ (row : DateRow). row.service_id) tables.dates k d l)
+    (has_own (λ (row : DateRow). row.service_id) tables.dates k d l)

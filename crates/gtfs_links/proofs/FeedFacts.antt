@@ -123,8 +123,13 @@ module _ (tables : Tables) (ix : Indexes) (n : AreNumbers tables ix) (scale : �
 -- the services are at most as many as the rows of the two files
 pub few_services : (tables : Tables) → length (services_of tables) ≤ length tables.calendars + length tables.dates
 few_services tables =
-    omega (arith, first_sights-shorter (service_ids tables), length-append (map (λ (row : CalendarRow). row.service_id) tables.calendars) (map (λ (row : DateRow). row.service_id) tables.dates),
-      length-map tables.calendars (λ (row : CalendarRow). row.service_id), length-map tables.dates (λ (row : DateRow). row.service_id))
+    omega (
+      arith,
+      first_sights-shorter (service_ids tables),
+      length-append (map (λ (row : CalendarRow). row.service_id) tables.calendars) (map (λ (row : DateRow). row.service_id) tables.dates),
+      length-map tables.calendars (λ (row : CalendarRow). row.service_id),
+      length-map tables.dates (λ (row : DateRow). row.service_id),
+    )
 
 -- a call that fails with the fault, or for want of memory
 pub fails_as : (e : FeedFault) (found : Option FeedFault) (linked : Linked) → FindsAs e found → FailsAs e (linked_or found linked)

@@ -94,7 +94,6 @@ module _ {R : Type 0} (id_of : R → List ℕ) (names : List (List ℕ)) (rows :
       let more : map id_of (take (i + 1) rows) ≡ map id_of (take i rows) ++ id_of row ∷ [] = rw (← e) at (map_more id_of rows i row l) in
       rw more (noted_more names (map id_of (take i rows)) (map id_of (drop (i + 1) rows)) (id_of row) (at_row i row l e h) new)
 
-
 module _ {R : Type 0} (id_of : R → List ℕ) (rows : List R) where
   -- noting a file's ids row by row
   pub noted_row : (i : ℕ) (row : R) (before now total : List (List ℕ)) → i < length rows → row ≡ get_or rows i row → now ≡ noted before (id_of row)

@@ -15,12 +15,7 @@ use otp_model::{FeedFault, Tables};
 use std::alloc::Global;
 
 /// Looks for the first fault of the files 1 to 8, in their order.
-pub fn check(
-    alloc: Global,
-    tables: &Tables,
-    zone: &str,
-    indexes: &Indexes,
-) -> Result<(), FeedFault>
+pub fn check(alloc: Global, tables: &Tables, zone: &str, indexes: &Indexes) -> Result<(), FeedFault>
     requires { AreIndexes tables.now indexes.now }
     ensures { Finds result (fault_of zone.now tables.now) }
 {

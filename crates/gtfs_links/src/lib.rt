@@ -12,9 +12,8 @@ mod dates;
 mod feed;
 mod ids;
 mod indexes;
-mod keys;
 mod kept;
-
+mod keys;
 mod linked_stops;
 mod linked_times;
 mod linked_transfers;
@@ -26,3 +25,6 @@ mod wrong;
 
 pub use feed::{Linked, link};
 pub use otp_model::{TimeRow, TransferRow};
+
+#[cfg(test)]
+mod tests;

@@ -6,7 +6,7 @@ use Rattle.gtfs_links.proofs.RuleFacts.{repeat_none}
 use Rattle.gtfs_links.proofs.ids.check_ids.Goals as goal
 
 pub loop-place-init : goal.loop-place-init
-loop-place-init g c = record { index = noted_at_start _ c.args.names.now c.requires; found = refl; }
+loop-place-init g c = record { index = noted_at_start _ c.args.names.now c.requires; found = refl }
 
 pub returns-in-Some : goal.returns-in-Some
 returns-in-Some g c =

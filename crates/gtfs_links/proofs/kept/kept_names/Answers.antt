@@ -13,9 +13,9 @@ loop-row-preserved c =
     let kept = is_among c.args.names.now in
     let had = rw c.as_str.ensures at c.has.ensures in
     elim c.if-has.branch [
-      then-has+in_ok-note w ↦
-        rw w.kept-is (noted_kept id_of_trip rows kept i row c.loop-row.kept w.note.new.self _ (omega arith) c.row-item.is (sym had ∙ w.if-has.true) (rw w.as_str-then-has.ensures at w.in_ok-note.ensures) c.loop-row.invariant)
-    | else-has w ↦ rw w.kept-is (noted_left_out id_of_trip rows kept i row c.loop-row.kept _ (omega arith) c.row-item.is (sym had ∙ w.if-has.false) c.loop-row.invariant)
+      | then-has+in_ok-note w ↦
+          rw w.kept-is (noted_kept id_of_trip rows kept i row c.loop-row.kept w.note.new.self _ (omega arith) c.row-item.is (sym had ∙ w.if-has.true) (rw w.as_str-then-has.ensures at w.in_ok-note.ensures) c.loop-row.invariant)
+      | else-has w ↦ rw w.kept-is (noted_left_out id_of_trip rows kept i row c.loop-row.kept _ (omega arith) c.row-item.is (sym had ∙ w.if-has.false) c.loop-row.invariant)
     ]
 
 pub returns : goal.returns

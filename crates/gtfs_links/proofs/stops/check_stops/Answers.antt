@@ -7,7 +7,7 @@ use Rattle.gtfs_links.proofs.RuleFacts.{stop_none}
 use Rattle.gtfs_links.proofs.stops.check_stops.Goals as goal
 
 pub loop-place-init : goal.loop-place-init
-loop-place-init c = record { index = noted_at_start _ c.args.stops.now c.requires; found = refl; }
+loop-place-init c = record { index = noted_at_start _ c.args.stops.now c.requires; found = refl }
 
 pub returns-in-Some : goal.returns-in-Some
 returns-in-Some c =

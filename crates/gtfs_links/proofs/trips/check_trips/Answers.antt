@@ -7,7 +7,7 @@ use Rattle.gtfs_links.proofs.RuleFacts.{trip_none}
 use Rattle.gtfs_links.proofs.trips.check_trips.Goals as goal
 
 pub loop-place-init : goal.loop-place-init
-loop-place-init c = record { index = noted_at_start _ c.args.indexes.now.trips c.requires; found = refl; }
+loop-place-init c = record { index = noted_at_start _ c.args.indexes.now.trips c.requires; found = refl }
 
 pub returns-in-Some : goal.returns-in-Some
 returns-in-Some c =
