@@ -1,0 +1,9 @@
+pub mod CallFacts
+pub mod CheckFacts
+pub mod DistinctFacts
+pub mod FaultFacts
+pub mod FeedFacts
+pub mod IndexFacts
+pub mod KeyFacts
+pub mod RuleFacts
+pub mod TimeFacts
