@@ -1,7 +1,6 @@
 -- What the text of a cursor spells.
-use Rattle.std.proofs.Common.{◌≡◌, ℕ, zero, suc, ◌+◌, ◌<◌, ◌≤◌, ◌^◌, Bool, true, false, List, [], ◌∷◌, ◌++◌, length, take, drop, get_or, Option, Some, None, Result, Ok, Err, IfOk, FitsSigned, w64, to_z, of_z, ℤ, pos, negsuc, ◌≤ℤ◌, ◌<ℤ◌, refl, sym, ◌∙◌, ap, subst, arith, append_assoc}
+use Rattle.std.proofs.Common.{◌≡◌, ℕ, zero, suc, ◌+◌, ◌<◌, ◌^◌, Bool, true, false, List, [], ◌∷◌, ◌++◌, length, take, drop, get_or, Option, Some, None, Result, Ok, Err, IfOk, FitsSigned, w64, to_z, of_z, ℤ, pos, negsuc, refl, sym, ◌∙◌, ap, subst, arith, append_assoc}
 use Rattle.std.specs.Prelude.{nat_lt, decimal, codes, if◌then◌else◌}
-use Rattle.std.specs.Fmt.{signed_decimal}
 use Rattle.std.specs.List.{before_first, after_first, position_or_len}
 use Rattle.std.specs.Str.{bytes_eq}
 use Rattle.std.specs.Str.Parse.{AllDigits}
@@ -13,7 +12,7 @@ use Rattle.std.proofs.lemmas.List.Sums.{passes_at_first, position_or_len_is, spl
 use Rattle.std.proofs.lemmas.Slice.Eq.{bytes_eq-Decides}
 use Rattle.std.proofs.lemmas.Str.Parse.{digit_at}
 use Rattle.otp_model.specs.declared.journey.Cursor.{Cursor}
-use Rattle.paging.specs.Text.{◌>>=◌, FitsText, FitsTime, IsCursorOf, cursor_of, cursor_text_of, cut, is_hyphen, number_then, numbers_in, numbers_text, plain_number_of}
+use Rattle.paging.specs.Text.{◌>>=◌, FitsText, FitsTime, IsCursorOf, cursor_of, cursor_text_of, cut, is_hyphen, number_then, numbers_in, numbers_text}
 use Rattle.paging.proofs.NumberFacts.{plain_from, plain_is}
 
 -- a step that gave something had something to go on

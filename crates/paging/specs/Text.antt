@@ -1,6 +1,6 @@
 -- The text of a cursor, v1-COMMIT-DEPARTURE-ARRIVAL-RIDES-COST: decimal numbers without leading zeros, RIDES of
 -- 1 to 9 digits and each other number of 1 to 18. The form is this project's own.
-use Rattle.std.specs.Prelude.{◌≡◌, ℕ, ◌+◌, ◌^◌, ◌<◌, ◌==◌, ◌≤ℤ◌, ◌<ℤ◌, ℤ, pos, Bool, false, List, [], ◌∷◌, ◌++◌, length, Option, Some, None, nat_lt, codes, decimal, if◌then◌else◌}
+use Rattle.std.specs.Prelude.{◌≡◌, ℕ, ◌^◌, ◌<◌, ◌==◌, ◌≤ℤ◌, ◌<ℤ◌, ℤ, pos, Bool, false, List, [], ◌∷◌, ◌++◌, length, Option, Some, None, nat_lt, codes, decimal, if◌then◌else◌}
 use Rattle.std.specs.Fmt.{signed_decimal}
 use Rattle.std.specs.List.{before_first, after_first, position_or_len}
 use Rattle.std.specs.Str.{bytes_eq}

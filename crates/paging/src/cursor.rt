@@ -1,13 +1,38 @@
-ghost use Rattle.std.specs.Prelude.{◌≡◌, ◌≤◌, ◌<◌, ◌^◌, IfOk, IfSome, Some, pos, string_bytes, codes, ◌++◌};
+ghost use Rattle.std.specs.Prelude.{◌≡◌, ◌≤◌, ◌<◌, ◌^◌, IfOk, IfSome, IsTrue, ◌↔◌, Some, pos, string_bytes, codes, ◌++◌};
 ghost use Rattle.std.specs.Option.{option_map};
-ghost use Rattle.paging.specs.Text.{FitsText, IsCursorOf, cursor_of, cursor_text_of, cut, has_leading_zero, number_then, numbers_in, numbers_text, plain_number_of};
+ghost use Rattle.paging.specs.Text.{FitsText, FitsTime, IsCursorOf, cursor_of, cursor_text_of, cut, has_leading_zero, number_then, numbers_in, numbers_text, plain_number_of};
 
 use otp_base::{Memory, Text, number};
 use otp_model::{Cursor, Time, Value};
 use std::alloc::{AllocError, Global};
 
+/// Whether a cursor's numbers have the digits that its text may have: none is negative, RIDES has at most
+/// 9 digits and each other number 18.
+pub fn fits_text(cursor: &Cursor) -> bool
+    ensures { IsTrue result ↔ FitsText cursor.now }
+{
+    let Cursor { commit, value } = *cursor;
+    is_short(commit)
+        && is_short_time(value.departure)
+        && is_short_time(value.arrival)
+        && value.rides < 1_000_000_000
+        && is_short(value.cost)
+}
+
+fn is_short(number: u64) -> bool
+    ensures { IsTrue result ↔ (number < 10 ^ 18) }
+{
+    number < 1_000_000_000_000_000_000
+}
+
+fn is_short_time(time: Time) -> bool
+    ensures { IsTrue result ↔ FitsTime time }
+{
+    time >= 0 && time < 1_000_000_000_000_000_000
+}
+
 /// The text of a cursor: `v1-COMMIT-DEPARTURE-ARRIVAL-RIDES-COST`, with decimal numbers. The cursor's
-/// numbers have at most 18 digits and no sign, that of the rides at most 9.
+/// numbers have the digits that it may have (`fits_text`).
 pub fn cursor_text(alloc: Global, cursor: &Cursor) -> Result<Text, Memory>
     requires { FitsText cursor.now }
     ensures text { IfOk result (λ text. text ≡ cursor_text_of cursor.now) }

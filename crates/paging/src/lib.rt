@@ -5,7 +5,7 @@
 mod cursor;
 mod slice;
 
-pub use cursor::{cursor_text, read_cursor};
+pub use cursor::{cursor_text, fits_text, read_cursor};
 pub use slice::page;
 
 #[cfg(test)]

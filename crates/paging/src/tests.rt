@@ -1,4 +1,4 @@
-use crate::{cursor_text, page, read_cursor};
+use crate::{cursor_text, fits_text, page, read_cursor};
 use otp_base::List;
 use otp_model::{Cursor, Found, Journey, Value};
 use std::alloc::{AllocError, Global};
@@ -88,7 +88,12 @@ fn texts_of_cursors(rt: HostRuntime) -> Result<(), Fail> {
     assert_eq!(rt; read_cursor(text.as_str()), Some(quick));
     let most = Cursor {
         commit: 999_999_999_999_999_999,
-        value: value(0, 999_999_999_999_999_999, 999_999_999, 0),
+        value: Value {
+            departure: 0,
+            arrival: 999_999_999_999_999_999,
+            rides: 999_999_999,
+            cost: 0,
+        },
     };
     let text = cursor_text(alloc, &most)?;
     assert_eq!(rt;
@@ -96,6 +101,19 @@ fn texts_of_cursors(rt: HostRuntime) -> Result<(), Fail> {
         "v1-999999999999999999-0-999999999999999999-999999999-0"
     );
     assert_eq!(rt; read_cursor(text.as_str()), Some(most));
+    for (departure, rides, cost, fits) in [
+        (0, 999_999_999, 999_999_999_999_999_999, true),
+        (-1, 1, 1, false),
+        (1_000_000_000_000_000_000, 1, 1, false),
+        (0, 1_000_000_000, 1, false),
+        (0, 1, 1_000_000_000_000_000_000, false),
+    ] {
+        let cursor = Cursor {
+            commit: 0,
+            value: value(departure, 0, rides, cost),
+        };
+        assert_eq!(rt; fits_text(&cursor), fits);
+    }
     Ok(())
 }
 
