@@ -1,5 +1,7 @@
+pub mod AmongFacts
 pub mod EachFacts
 pub mod GapFacts
-pub mod RowFacts
 pub mod GroupFacts
 pub mod OrderFacts
+pub mod RangeFacts
+pub mod RowFacts

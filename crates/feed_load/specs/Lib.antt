@@ -1,3 +1,4 @@
 pub mod Calls
 pub mod Anchors
 pub mod Trips
+pub mod Runs

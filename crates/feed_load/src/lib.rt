@@ -3,6 +3,7 @@
 
 mod by_trip;
 mod gap;
+mod runs;
 mod trip_calls;
 mod trips;
 

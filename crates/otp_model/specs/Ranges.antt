@@ -3,6 +3,8 @@ use Rattle.std.specs.Prelude.{◌^◌, ◌≤◌, ℤ, pos, neg_ℤ, ◌≤ℤ�
 use Rattle.std.specs.List.{All, AllPairs}
 use Rattle.otp_model.specs.declared.timetable.Call.{Call}
 use Rattle.otp_model.specs.declared.timetable.Run.{Run}
+use Rattle.otp_model.specs.declared.options.Options.{Options}
+use Rattle.otp_model.specs.declared.timetable.Profile.{Profile}
 use Rattle.otp_model.specs.declared.journey.Request.{Request}
 use Rattle.otp_model.specs.declared.journey.Leg.{Leg}
 use Rattle.otp_model.specs.declared.journey.Leg.TheVariants.{Walk, Ride}
@@ -35,3 +37,16 @@ pub record IsRequestInRange (r : Request) : Type 0 where
 pub record IsServiceDay (day : ℤ) : Type 0 where
   pub low : pos 0 ≤ℤ day
   pub high : day ≤ℤ pos 376199
+
+-- the numbers of a profile are in range
+pub record IsProfileInRange (profile : Profile) : Type 0 where
+  pub speed : (100 ≤ profile.speed) × (profile.speed ≤ 10000)
+  pub reach : profile.reach ≤ 5000000
+  pub scale : profile.scale ≤ 111195
+
+-- a first day of the years 1970 to 2998, and numbers in their ranges
+pub record AreOptionsInRange (options : Options) : Type 0 where
+  pub first_day : (pos 0 ≤ℤ options.first_day) × (options.first_day ≤ℤ pos 375834)
+  pub days : (1 ≤ options.days) × (options.days ≤ 31)
+  pub feeds : (1 ≤ options.feeds) × (options.feeds ≤ 16)
+  pub profile : IsProfileInRange options.profile

@@ -8,6 +8,7 @@ mod journey;
 mod laws;
 mod links;
 mod message;
+mod options;
 mod tables;
 mod timetable;
 mod value;
@@ -18,6 +19,7 @@ pub use journey::{Cursor, Found, Journey, Leg, Page, Place, Request, Value};
 pub use laws::pages_join;
 pub use links::{TimeRow, TransferRow};
 pub use message::{Commit, Entity, Event, Message, StopUpdate, TripUpdate};
+pub use options::Options;
 pub use tables::{
     AgencyRow, CalendarRow, DateRow, RouteRow, StopRow, StopTimeRow, Tables, TransferLine, TripRow,
 };

@@ -1,0 +1,7 @@
+use Rattle.std.proofs.Common.{◌≡◌, ◌+ℤ◌, pos, map}
+use Rattle.std.specs.List.{range_with_len}
+use Rattle.feed_load.specs.Runs.{service_day}
+use Rattle.feed_load.proofs.runs.service_days.Given as goal
+
+abbrev pub invariant-loop-n : goal.invariant-loop-n
+invariant-loop-n l = l.days.items ≡ map (λ n. service_day l.tables l.horizon.zone (l.horizon.first_day +ℤ pos n)) (range_with_len 0 l.n)

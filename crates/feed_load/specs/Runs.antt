@@ -1,0 +1,54 @@
+-- The runs of a feed: one for each day and each trip whose service runs on it, by day and then by trip (GTFS
+-- Schedule reference, `stop_times.txt` and "Time": times count from noon less 12 hours of the service day).
+use Rattle.std.specs.Prelude.{◌==◌, ℕ, ℤ, pos, ◌+ℤ◌, List, [], ◌∷◌, length, map, Option, None, Some, Bool, if◌then◌else◌, slice_get, sum_by}
+use Rattle.std.specs.List.{flat_map, list_any, range_with_len}
+use Rattle.otp_model.specs.declared.tables.Tables.{Tables}
+use Rattle.otp_model.specs.declared.timetable.Call.{Call}
+use Rattle.otp_model.specs.declared.timetable.Run.{Run}
+use Rattle.otp_model.specs.declared.timetable.Trip.{Trip}
+use Rattle.otp_model.specs.declared.timetable.Zone.{Zone}
+use Rattle.otp_model.specs.Rows.{IsWithin}
+use Rattle.feed_load.specs.declared.runs.Horizon.{Horizon}
+use Rattle.feed_load.specs.declared.runs.ServiceDay.{ServiceDay}
+use Rattle.service_days.specs.Active.{active_services}
+use Rattle.service_days.specs.LocalTime.{start_of}
+
+-- a call of a day that starts at this time
+abbrev pub call_from : ℤ → Call → Call
+call_from start call = record call { arrival = start +ℤ call.arrival; departure = start +ℤ call.departure }
+
+-- whether a service is among those of the day
+abbrev pub is_among : List ℕ → ℕ → Bool
+is_among services service = list_any (λ n. n == service) services
+
+-- the times of a call are at most 999:59:59
+pub record HasClock (call : Call) : Type 0 where
+  pub arrival : IsWithin 3600000 call.arrival
+  pub departure : IsWithin 3600000 call.departure
+
+-- a day of service
+abbrev pub service_day : Tables → Zone → ℤ → ServiceDay
+service_day tables zone day = record { day = day; start = start_of zone day; services = active_services tables day }
+
+-- the days of a horizon
+abbrev pub days_of : Tables → Horizon → List ServiceDay
+days_of tables horizon = map (λ n. service_day tables horizon.zone (horizon.first_day +ℤ pos n)) (range_with_len 0 horizon.days)
+
+-- the run of the trip of this number on a day, if its service runs on it
+abbrev pub run_of : ServiceDay → ℕ → Option Trip → Option (List Call) → List Run
+run_of day n None calls = []
+run_of day n (Some trip) None = []
+run_of day n (Some trip) (Some calls) =
+    if is_among day.services trip.service then record { trip = n; day = day.day; calls = map (call_from day.start) calls } ∷ [] else []
+
+-- the runs of a day, trip by trip
+abbrev pub runs_of_day : List Trip → List (List Call) → ServiceDay → List Run
+runs_of_day trips calls day = flat_map (λ n. run_of day n (slice_get trips n) (slice_get calls n)) (range_with_len 0 (length trips))
+
+-- the runs of the days
+abbrev pub runs_of : List Trip → List (List Call) → List ServiceDay → List Run
+runs_of trips calls days = flat_map (runs_of_day trips calls) days
+
+-- how many calls runs have
+abbrev pub call_count : List Run → ℕ
+call_count runs = sum_by (λ run. length run.calls) runs
