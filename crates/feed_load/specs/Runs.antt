@@ -8,7 +8,7 @@ use Rattle.otp_model.specs.declared.timetable.Run.{Run}
 use Rattle.otp_model.specs.declared.timetable.Trip.{Trip}
 use Rattle.otp_model.specs.declared.timetable.Zone.{Zone}
 use Rattle.otp_model.specs.Rows.{IsWithin}
-use Rattle.feed_load.specs.declared.runs.Horizon.{Horizon}
+use Rattle.otp_model.specs.declared.options.Options.{Options}
 use Rattle.feed_load.specs.declared.runs.ServiceDay.{ServiceDay}
 use Rattle.service_days.specs.Active.{active_services}
 use Rattle.service_days.specs.LocalTime.{start_of}
@@ -30,9 +30,9 @@ pub record HasClock (call : Call) : Type 0 where
 abbrev pub service_day : Tables → Zone → ℤ → ServiceDay
 service_day tables zone day = record { day = day; start = start_of zone day; services = active_services tables day }
 
--- the days of a horizon
-abbrev pub days_of : Tables → Horizon → List ServiceDay
-days_of tables horizon = map (λ n. service_day tables horizon.zone (horizon.first_day +ℤ pos n)) (range_with_len 0 horizon.days)
+-- the days over which a feed is loaded
+abbrev pub days_of : Tables → Options → List ServiceDay
+days_of tables options = map (λ n. service_day tables options.zone (options.first_day +ℤ pos n)) (range_with_len 0 options.days)
 
 -- the run of the trip of this number on a day, if its service runs on it
 abbrev pub run_of : ServiceDay → ℕ → Option Trip → Option (List Call) → List Run

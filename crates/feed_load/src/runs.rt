@@ -1,22 +1,14 @@
-ghost use Rattle.std.specs.Prelude.{◌≡◌, ◌<◌, ◌^◌, ◌++◌, pos, ◌+ℤ◌, ◌≤ℤ◌, IfOk, OnOk, Some, length, map};
+ghost use Rattle.std.specs.Prelude.{◌≡◌, ◌<◌, ◌^◌, ◌++◌, IfOk, OnOk, Some, length, map};
 ghost use Rattle.std.specs.List.{All};
 ghost use Rattle.std.specs.List.Sorted.{IsStrictlyIncreasing};
-ghost use Rattle.otp_model.specs.Ranges.{IsServiceDay};
+ghost use Rattle.otp_model.specs.Ranges.{AreOptionsInRange, IsServiceDay};
 ghost use Rattle.otp_model.specs.Rows.{AreTables, IsWithin};
 ghost use Rattle.feed_load.specs.Runs.{HasClock, call_from, days_of, is_among, run_of, runs_of, runs_of_day, service_day};
 
 use otp_base::{List, Memory};
-use otp_model::{Call, DayNo, Run, Tables, Time, Trip, TripNo, Zone};
+use otp_model::{Call, DayNo, Options, Run, Tables, Time, Trip, TripNo, Zone};
 use service_days::{active, day_start};
 use std::alloc::Global;
-
-/// The days of a horizon, on the clocks of a zone.
-#[derive(Clone, Copy, Debug)]
-pub struct Horizon {
-    pub zone: Zone,
-    pub first_day: DayNo,
-    pub days: u32,
-}
 
 /// A day of service: when it starts, and the services that run on it, by number and rising.
 #[derive(Debug, Drop)]
@@ -36,20 +28,19 @@ impl ServiceDay {
     }
 }
 
-/// The days of a horizon.
+/// The days over which a feed is loaded.
 pub fn service_days(
     alloc: Global,
     tables: &Tables,
-    horizon: &Horizon,
+    options: &Options,
 ) -> Result<Vec<ServiceDay>, Memory>
     requires tables { AreTables tables.now }
-    requires first { pos 0 ≤ℤ horizon.now.first_day }
-    requires last { (horizon.now.first_day +ℤ pos horizon.now.days) ≤ℤ pos 376200 }
-    ensures { IfOk result (λ days. days.items ≡ days_of tables.now horizon.now) }
+    requires options { AreOptionsInRange options.now }
+    ensures { IfOk result (λ days. days.items ≡ days_of tables.now options.now) }
 {
     let mut days = Vec::new(alloc);
-    for n in 0..horizon.days {
-        let day = service_day(alloc, tables, &horizon.zone, horizon.first_day + n as DayNo)?;
+    for n in 0..options.days {
+        let day = service_day(alloc, tables, &options.zone, options.first_day + n as DayNo)?;
         days.push(day)?;
     }
     Ok(days)

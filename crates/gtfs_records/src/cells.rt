@@ -1,7 +1,7 @@
 ghost use Rattle.std.specs.Prelude.{◌≡◌, ◌≢◌, ◌≤◌, ◌<◌, ◌^◌, ◌≤ℤ◌, [], pos, neg_ℤ, false, IfOk, IfSome, Option, None, option_map};
 ghost use Rattle.std.specs.Str.{is_utf8};
 ghost use Rattle.gtfs_records.specs.Faults.{Gives};
-ghost use Rattle.gtfs_records.specs.Fields.{any_of, choice_of, clock_of, code_of, coordinate_of, count_of, count_or_none_of, filled_of, time_of};
+ghost use Rattle.gtfs_records.specs.Fields.{any_of, choice_of, clock_of, code_of, coordinate_of, count_of, count_or_none_of, filled_of};
 ghost use Rattle.gtfs_records.specs.Table.{accepted, cells, read_cell, text_at};
 
 use crate::fault::{Cause, Fault, TableError};
@@ -61,17 +61,6 @@ impl Line {
         match fields::clock(text.as_bytes()) {
             Some(time) => Ok(time),
             None => Err(self.fault(Cause::BadField, column)),
-        }
-    }
-
-    /// A time of day that is there.
-    pub fn time(&self, column: usize) -> Result<u32, TableError>
-        ensures { Gives (λ x. x) result (read_cell time_of self.now.row (cells self.now) column) }
-    {
-        let text = self.text(column)?;
-        match fields::clock(text.as_bytes()) {
-            Some(Some(time)) => Ok(time),
-            _ => Err(self.fault(Cause::BadField, column)),
         }
     }
 

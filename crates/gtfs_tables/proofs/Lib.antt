@@ -1,4 +1,1 @@
-pub mod OrderFacts
-pub mod BlockFacts
-pub mod RunFacts
 pub mod ToldFacts

@@ -1,182 +1,105 @@
-use crate::{Plain, PlainFault, read_plain};
+use crate::{FeedFault, read_tables};
 use otp_base::{FileEntry, List, MemoryFolder, Text};
+use otp_model::parse_day;
 use std::alloc::Global;
 use std::test::Fail;
 
-const HEADER: &str = "trip_id,arrival_time,departure_time,stop_id,stop_sequence\n";
+// A feed of eight files, of which `calendar_dates.txt` names days before the epoch.
+const FILES: [(&str, &str); 8] = [
+    ("f/agency.txt", "agency_id,agency_timezone\nX,Etc/UTC\n"),
+    (
+        "f/stops.txt",
+        "stop_id,stop_name,stop_lat,stop_lon\nA,A,0.0,0.0\nB,,-0.1,+0.0000059\n",
+    ),
+    ("f/routes.txt", "route_id,route_type\nR,3\n"),
+    ("f/trips.txt", "service_id,route_id, trip_id \nS,R,T1\n"),
+    (
+        "f/stop_times.txt",
+        "trip_id,arrival_time,departure_time,stop_id,stop_sequence\nT1,08:00:00,8:00:01,A,1\nT1,,,B,2\n",
+    ),
+    (
+        "f/calendar.txt",
+        "service_id,monday,tuesday,wednesday,thursday,friday,saturday,sunday,start_date,end_date\nS,1,0,0,0,0,0,1,19700101,20240506\n",
+    ),
+    (
+        "f/calendar_dates.txt",
+        "service_id,date,exception_type\nS,19691231,1\n",
+    ),
+    (
+        "f/transfers.txt",
+        "from_stop_id,to_stop_id,transfer_type,min_transfer_time\nA,B,2,180\nB,A\n",
+    ),
+];
 
-// A folder `f` with these bytes as its `stop_times.txt`, whose calls with these numbers fail.
-fn folder(alloc: Global, bytes: Vec<u8>, fails: &[u64]) -> Result<MemoryFolder, Fail> {
-    let mut files = List::new(alloc);
-    files.push(FileEntry {
-        name: Text::from_str(alloc, "f/stop_times.txt")?,
-        bytes: List::from_vec(bytes),
-    })?;
+// A folder of these files, of which each of these reads fails.
+fn folder(alloc: Global, files: &[(&str, &str)], fails: &[u64]) -> Result<MemoryFolder, Fail> {
+    let mut entries = List::new(alloc);
+    for (name, text) in files {
+        entries.push(FileEntry {
+            name: Text::from_str(alloc, *name)?,
+            bytes: List::from_vec(Vec::from_slice(alloc, text.as_bytes())?),
+        })?;
+    }
     let fails = List::from_vec(Vec::from_slice(alloc, fails)?);
-    Ok(MemoryFolder::new(files, fails))
-}
-
-fn read(alloc: Global, bytes: &[u8]) -> Result<Result<Plain, PlainFault>, Fail> {
-    let mut folder = folder(alloc, Vec::from_slice(alloc, bytes)?, &[])?;
-    Ok(read_plain(alloc, &mut folder, "f"))
-}
-
-// The header and these rows.
-fn under_header(alloc: Global, rows: &str) -> Result<String, Fail> {
-    let mut text = String::from_str(alloc, HEADER)?;
-    text.push_str(rows)?;
-    Ok(text)
+    Ok(MemoryFolder::new(entries, fails))
 }
 
 #[test]
-fn reads_a_timetable(rt: HostRuntime) -> Result<(), Fail> {
+fn reads_all_files(rt: HostRuntime) -> Result<(), Fail> {
     let alloc = rt.alloc();
-    let text = under_header(
-        alloc,
-        "T1,08:00:00,08:00:00,A,1\nT1,08:10:00,08:10:30,B,2\nT1,08:40:00,08:40:00,D,3\nT2,8:20:00,8:20:00,C,7\nT2,124:00:01,124:00:01,D,9\n",
-    )?;
-    let Ok(plain) = read(alloc, text.as_bytes())? else {
+    let mut folder = folder(alloc, &FILES, &[])?;
+    let Ok(tables) = read_tables(alloc, &mut folder, "f") else {
         assert!(rt; false);
         return Ok(());
     };
-    let stops = [("A", 0), ("B", 1), ("D", 2), ("C", 3)];
-    assert_eq!(rt; plain.stops.len(), stops.len());
-    for (stop, (id, x)) in plain.stops.as_slice().iter().zip(stops) {
-        assert_eq!(rt; stop.id.as_str(), id);
-        assert_eq!(rt; stop.name.as_str(), id);
-        assert_eq!(rt; (stop.x, stop.y, stop.kind, stop.parent), (x, 0, 0, None));
+    assert_eq!(rt; tables.agencies.len() + tables.routes.len() + tables.trips.len(), 3);
+    for (stop, (lat, lon)) in tables.stops.as_slice().iter().zip([(0, 0), (-100_000, 5)]) {
+        assert_eq!(rt; (stop.stop_lat, stop.stop_lon, stop.location_type), (lat, lon, 0));
     }
-    let trips = ["T1", "T2"];
-    assert_eq!(rt; plain.trips.len(), trips.len());
-    for (trip, id) in plain.trips.as_slice().iter().zip(trips) {
-        assert_eq!(rt; trip.id.as_str(), id);
-        assert_eq!(rt; (trip.route, trip.service), (0, 0));
+    for (row, times) in tables.stop_times.as_slice().iter().zip([(Some(28_800), Some(28_801)), (None, None)]) {
+        assert_eq!(rt; (row.arrival_time, row.departure_time), times);
     }
-    let calls = [
-        [
-            (0, 1, 28_800, 28_800),
-            (1, 2, 29_400, 29_430),
-            (2, 3, 31_200, 31_200),
-        ]
-        .as_slice(),
-        [(3, 7, 30_000, 30_000), (2, 9, 446_401, 446_401)].as_slice(),
-    ];
-    assert_eq!(rt; plain.runs.len(), calls.len());
-    for (number, (run, calls)) in plain.runs.as_slice().iter().zip(calls).enumerate() {
-        assert_eq!(rt; (run.trip as usize, run.day), (number, 0));
-        assert_eq!(rt; run.calls.len(), calls.len());
-        for (call, wanted) in run.calls.as_slice().iter().zip(calls) {
-            assert_eq!(rt;
-                (call.stop, call.seq, call.arrival, call.departure),
-                *wanted
-            );
-            assert!(rt; call.board && call.alight);
-        }
+    for row in tables.calendars.as_slice() {
+        assert_eq!(rt; (row.monday, row.tuesday, row.sunday, row.end_date), (1, 0, 1, 19_849));
+    }
+    for row in tables.dates.as_slice() {
+        assert_eq!(rt; (row.date, row.exception_type), (-1, 1));
+    }
+    for (row, (kind, least)) in tables.transfers.as_slice().iter().zip([(2, 180), (0, 0)]) {
+        assert_eq!(rt; (row.transfer_type, row.min_transfer_time), (kind, least));
     }
     Ok(())
 }
 
 #[test]
-fn tells_the_form(rt: HostRuntime) -> Result<(), Fail> {
+fn hands_on_a_failed_read(rt: HostRuntime) -> Result<(), Fail> {
     let alloc = rt.alloc();
-    let rows = [
-        ("", true),
-        ("T,0:00:00,0:00:00,A,1\n", true),
-        ("T,0:00:00,0:00:00,A,1", true),
-        ("\"T\",\"0:00:00\",0:00:00,\"A,B\",1\n", true),
-        ("T,0:00:00,0:00:00,A,1\r\nT,0:00:00,999:59:59,B,2\r\n", true),
-        (" T ,  0:00:00, 0:00:00,A ,1 \n", true),
-        ("\n\nT,0:00:00,0:00:00,A,1\n\n\n", true),
-        ("T,1:00:00,1:00:00,A,1\nT,1:00:00,1:00:00,A,2\n", true),
-        ("T,1:00:00,1:00:00,A,1\nU,0:00:00,0:00:00,A,1\n", true),
-        ("T,0:00:00,0:00:00,A\n", false),
-        ("T,0:00:00,0:00:00,A,1,\n", false),
-        ("T,0:60:00,0:60:00,A,1\n", false),
-        ("T,1000:00:00,1000:00:00,A,1\n", false),
-        ("T,0:00,0:00,A,1\n", false),
-        ("T,0:00:00,0:00:00,A,1234567890\n", false),
-        ("T,0:00:00,0:00:00,A,-1\n", false),
-        (",0:00:00,0:00:00,A,1\n", false),
-        ("T,,0:00:00,A,1\n", false),
-        ("T,0:00:00,,A,1\n", false),
-        ("T,0:00:00,0:00:00, ,1\n", false),
-        ("T,0:00:00,0:00:00,A,\n", false),
-        ("T,1:00:00,0:59:59,A,1\n", false),
-        ("T,1:00:00,1:00:00,A,1\nT,0:59:59,1:00:00,B,2\n", false),
-        ("T,1:00:00,1:00:00,A,2\nT,1:00:00,1:00:00,B,2\n", false),
-        ("T,1:00:00,1:00:00,A,2\nT,1:00:00,1:00:00,B,1\n", false),
-        (
-            "T,1:00:00,1:00:00,A,1\nU,1:00:00,1:00:00,A,1\nT,1:00:00,1:00:00,B,2\n",
-            false,
-        ),
-    ];
-    for (rows, accepted) in rows {
-        let text = under_header(alloc, rows)?;
-        match read(alloc, text.as_bytes())? {
-            Ok(_) => assert!(rt; accepted, "{rows}"),
-            Err(fault) => {
-                assert_eq!(rt; fault, PlainFault::Form);
-                assert!(rt; !accepted, "{rows}");
-            }
-        }
-    }
+    let mut folder = folder(alloc, &FILES, &[4])?;
+    assert!(rt; is_read_fault(read_tables(alloc, &mut folder, "f")));
+    assert_eq!(rt; folder.faults, 1);
     Ok(())
 }
 
-#[test]
-fn tells_the_form_of_files(rt: HostRuntime) -> Result<(), Fail> {
-    let alloc = rt.alloc();
-    let files: [(&[u8], bool); 6] = [
-        (
-            b"\xEF\xBB\xBFtrip_id,arrival_time,departure_time,stop_id,stop_sequence\n",
-            true,
-        ),
-        (b"", false),
-        (
-            b"trip_id,arrival_time,departure_time,stop_sequence,stop_id\n",
-            false,
-        ),
-        (
-            b"trip_id ,arrival_time,departure_time,stop_id,stop_sequence\n",
-            false,
-        ),
-        (
-            b"trip_id,arrival_time,departure_time,stop_id,stop_sequence,pickup_type\n",
-            false,
-        ),
-        (
-            b"trip_id,arrival_time,departure_time,stop_id,stop_sequence\nT\xFF,0:00:00,0:00:00,A,1\n",
-            false,
-        ),
-    ];
-    for (bytes, accepted) in files {
-        assert_eq!(rt; read(alloc, bytes)?.is_ok(), accepted);
+fn is_read_fault<T: Drop>(answer: Result<T, FeedFault>) -> bool {
+    match answer {
+        Err(FeedFault::Read) => true,
+        _ => false,
     }
-    for (more, accepted) in [(0, true), (1, false)] {
-        let mut bytes = Vec::from_slice(alloc, HEADER.as_bytes())?;
-        bytes.resize(1_048_576 + more, b'\n')?;
-        let mut folder = folder(alloc, bytes, &[])?;
-        assert_eq!(rt; read_plain(alloc, &mut folder, "f").is_ok(), accepted);
-    }
-    Ok(())
 }
 
 #[test]
-fn tells_faults_of_the_folder(rt: HostRuntime) -> Result<(), Fail> {
-    let alloc = rt.alloc();
-    let text = under_header(alloc, "T,0:00:00,0:00:00,A,1\n")?;
-    for (path, fails, faults, wanted) in [
-        ("f", 1, 1, PlainFault::Read),
-        ("f", 2, 1, PlainFault::Read),
-        ("g", 0, 0, PlainFault::Form),
+fn reads_days(rt: HostRuntime) -> Result<(), Fail> {
+    for (text, day) in [
+        ("00010101", Some(-719_162)),
+        ("99991231", Some(2_932_896)),
+        ("20240229", Some(19_782)),
+        ("20230229", None),
+        ("20000229", Some(11_016)),
+        ("00000101", None),
+        ("2024010", None),
+        ("2024-1-1", None),
     ] {
-        let bytes = Vec::from_slice(alloc, text.as_bytes())?;
-        let mut folder = folder(alloc, bytes, &[fails])?;
-        match read_plain(alloc, &mut folder, path) {
-            Ok(_) => assert!(rt; false),
-            Err(fault) => assert_eq!(rt; fault, wanted),
-        }
-        assert_eq!(rt; folder.faults, faults);
+        assert_eq!(rt; parse_day(text), day, "{text}");
     }
     Ok(())
 }

@@ -4,4 +4,4 @@ use Rattle.feed_load.specs.Runs.{service_day}
 use Rattle.feed_load.proofs.runs.service_days.Given as goal
 
 abbrev pub invariant-loop-n : goal.invariant-loop-n
-invariant-loop-n l = l.days.items ≡ map (λ n. service_day l.tables l.horizon.zone (l.horizon.first_day +ℤ pos n)) (range_with_len 0 l.n)
+invariant-loop-n l = l.days.items ≡ map (λ n. service_day l.tables l.options.zone (l.options.first_day +ℤ pos n)) (range_with_len 0 l.n)
