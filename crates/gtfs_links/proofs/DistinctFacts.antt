@@ -23,11 +23,11 @@ pub none_later : (a b : Option FeedFault) → first_of a b ≡ None → b ≡ No
 none_later None b h = h
 none_later (Some fault) b h = cc h
 
-none_row : (file row : ℕ) (wrong : Option Wrong) (later : Option FeedFault) → fault_or file row wrong later ≡ None → wrong ≡ None
+pub none_row : (file row : ℕ) (wrong : Option Wrong) (later : Option FeedFault) → fault_or file row wrong later ≡ None → wrong ≡ None
 none_row file row None later h = refl
 none_row file row (Some wrong) later h = cc h
 
-none_rest : (file row : ℕ) (wrong : Option Wrong) (later : Option FeedFault) → fault_or file row wrong later ≡ None → later ≡ None
+pub none_rest : (file row : ℕ) (wrong : Option Wrong) (later : Option FeedFault) → fault_or file row wrong later ≡ None → later ≡ None
 none_rest file row None later h = h
 none_rest file row (Some wrong) later h = cc h
 

@@ -5,5 +5,6 @@ pub mod FaultFacts
 pub mod FeedFacts
 pub mod IndexFacts
 pub mod KeyFacts
+pub mod ResolvedFacts
 pub mod RuleFacts
 pub mod TimeFacts
