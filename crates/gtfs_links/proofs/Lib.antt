@@ -1,3 +1,4 @@
+pub mod CalledFacts
 pub mod CallFacts
 pub mod CheckFacts
 pub mod DistinctFacts

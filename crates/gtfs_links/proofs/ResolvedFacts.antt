@@ -25,7 +25,9 @@ use Rattle.gtfs_links.specs.Faults.{duplicate, first_wrong, unknown}
 use Rattle.gtfs_links.specs.Linked.{IsOtherTrip, fault_of, feed_of, is_kept, is_unnamed, kept_trips, number_if, passed_of, stop_at, stop_ids, time_at, time_if, times_from, transfer_at, trip_ids}
 use Rattle.gtfs_links.specs.Resolved.{AreOtherStops, AreOtherTrips, IsNumberOf, IsResolved, IsResolvedStop, IsResolvedTime, IsResolvedTransfer}
 use Rattle.gtfs_links.specs.Rules.{id_of_stop, id_of_trip, is_empty, is_same_call, is_unknown, stop_rule, stop_wrong, time_rule, time_wrong, transfer_rule, transfer_wrong, trip_rule}
-use Rattle.gtfs_links.proofs.DistinctFacts.{AreApart, none_first, none_later, none_row, none_rest}
+use Rattle.gtfs_links.proofs.CalledFacts.{IsApartFrom, called_twice, calls_apart, none_same}
+use Rattle.gtfs_links.proofs.DistinctFacts.{none_row, none_rest, rows_related}
+use Rattle.gtfs_links.proofs.RuleFacts.{time_none}
 use Rattle.gtfs_links.proofs.FeedFacts.{none_of_stops, none_of_times, none_of_transfers, stops_apart, trips_apart}
 
 -- what the rule says of each row, where nothing is wrong
@@ -166,4 +168,11 @@ module _ (zone : List ℕ) (tables : Tables) (scale : ℕ) (read : AreTables tab
           kind = (read.transfers.each k d l).kind;
           minimum = (read.transfers.each k d l).minimum;
         }));
+    called = λ k l.
+        called_twice tables.stops (stop_ids tables) tables.stop_times tables.trips (AllPairs-filter IsOtherTrip (is_kept tables.stop_times) tables.trips (trips_apart zone tables fine)) k
+        (omega (arith, l, kept_count, length-map (kept_trips tables) id_of_trip));
+    calls = calls_apart tables.stops (stop_ids tables) (map id_of_trip (kept_trips tables)) 1 tables.stop_times
+        (rows_related IsApartFrom 5 (time_rule (has_name (trip_ids tables)) (has_name (stop_ids tables)))
+        (λ before r h. none_same r before (time_none (list_any (is_same_call r) before) (has_name (trip_ids tables)) (has_name (stop_ids tables)) r h)) [] tables.stop_times (λ i j d l m. absurd (omega (arith, m)))
+        (none_of_times zone tables fine));
   }

@@ -56,3 +56,5 @@ pub record IsResolved (linked : Linked) : Type 0 where
   pub stops : All (IsResolvedStop (length linked.stops)) linked.stops
   pub times : All (IsResolvedTime (length linked.stops) (length linked.trips)) linked.times
   pub transfers : All (IsResolvedTransfer (length linked.stops)) linked.transfers
+  pub called : (trip : ℕ) → trip < length linked.trips → 2 ≤ count_by (is_time_of trip) linked.times
+  pub calls : AllPairs AreOtherCalls linked.times
