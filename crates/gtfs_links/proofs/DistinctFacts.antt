@@ -23,13 +23,26 @@ pub none_later : (a b : Option FeedFault) → first_of a b ≡ None → b ≡ No
 none_later None b h = h
 none_later (Some fault) b h = cc h
 
-none_row : (file row : ℕ) (wrong : Option Wrong) (later : Option FeedFault) → fault_or file row wrong later ≡ None → wrong ≡ None
+pub none_row : (file row : ℕ) (wrong : Option Wrong) (later : Option FeedFault) → fault_or file row wrong later ≡ None → wrong ≡ None
 none_row file row None later h = refl
 none_row file row (Some wrong) later h = cc h
 
-none_rest : (file row : ℕ) (wrong : Option Wrong) (later : Option FeedFault) → fault_or file row wrong later ≡ None → later ≡ None
+pub none_rest : (file row : ℕ) (wrong : Option Wrong) (later : Option FeedFault) → fault_or file row wrong later ≡ None → later ≡ None
 none_rest file row None later h = h
 none_rest file row (Some wrong) later h = cc h
+
+-- what a rule says of each row and the rows before it holds of all pairs
+pub rows_related : {R : Type 0} (Rel : R → R → Type 0) (file : ℕ) (rule : List R → R → Option Wrong)
+    (says : (before : List R) (row : R) → rule before row ≡ None → (k : ℕ) (d : R) → k < length before → Rel (get_or before k d) row)
+    (before rows : List R) → AllPairs Rel before → first_wrong file rule before rows ≡ None → AllPairs Rel (before ++ rows)
+unfolding first_wrong
+rows_related Rel file rule says before [] related h = rw (append-nil before) related
+rows_related {R} Rel file rule says before (row ∷ rows) related h =
+    let fine : rule before row ≡ None = none_row file (length before + 1) (rule before row) (first_wrong file rule (before ++ row ∷ []) rows) h in
+    let rest : first_wrong file rule (before ++ row ∷ []) rows ≡ None = none_rest file (length before + 1) (rule before row) (first_wrong file rule (before ++ row ∷ []) rows) h in
+    let more : AllPairs Rel (before ++ row ∷ []) = all_pairs_push Rel before row related (says before row fine) in
+    let all : AllPairs Rel ((before ++ row ∷ []) ++ rows) = rows_related Rel file rule says (before ++ row ∷ []) rows more rest in
+    rw append_assoc at all
 
 module _ {R : Type 0} (id_of : R → List ℕ) where
   abbrev pub AreApart : List R → Type 0
@@ -43,14 +56,7 @@ module _ {R : Type 0} (id_of : R → List ℕ) where
 
   pub rows_apart : (file : ℕ) (rule : List R → R → Option Wrong) (clean : (before : List R) (row : R) → rule before row ≡ None → is_repeated id_of before row ≡ false)
       (before rows : List R) → AreApart before → first_wrong file rule before rows ≡ None → AreApart (before ++ rows)
-  unfolding first_wrong
-  rows_apart file rule clean before [] apart h = rw (append-nil before) apart
-  rows_apart file rule clean before (row ∷ rows) apart h =
-      let fine : rule before row ≡ None = none_row file (length before + 1) (rule before row) (first_wrong file rule (before ++ row ∷ []) rows) h in
-      let rest : first_wrong file rule (before ++ row ∷ []) rows ≡ None = none_rest file (length before + 1) (rule before row) (first_wrong file rule (before ++ row ∷ []) rows) h in
-      let more : AreApart (before ++ row ∷ []) = all_pairs_push (λ (a b : R). id_of a ≢ id_of b) before row apart (apart_from before (id_of row) (clean before row fine)) in
-      let all : AreApart ((before ++ row ∷ []) ++ rows) = rows_apart file rule clean (before ++ row ∷ []) rows more rest in
-      rw append_assoc at all
+  rows_apart file rule clean = rows_related (λ (a b : R). id_of a ≢ id_of b) file rule (λ before row fine. apart_from before (id_of row) (clean before row fine))
 
   none_has : (rows : List R) (id : List ℕ) → All (λ (row : R). id ≢ id_of row) rows → has_name (map id_of rows) id ≡ false
   none_has [] id h = refl

@@ -32,7 +32,7 @@ none_apart : {R : Type 0} (id_of : R → List ℕ) → AreApart id_of []
 none_apart id_of i j d l m = absurd (omega (arith, m))
 
 module _ (zone : List ℕ) (tables : Tables) (fine : fault_of zone tables ≡ None) where
-  abbrev from_transfers : Option FeedFault
+  abbrev pub from_transfers : Option FeedFault
   from_transfers = first_wrong 8 (transfer_rule (has_name (stop_ids tables))) [] tables.transfers
 
   abbrev from_dates : Option FeedFault
@@ -61,6 +61,24 @@ module _ (zone : List ℕ) (tables : Tables) (fine : fault_of zone tables ≡ No
 
   none_trips : from_trips ≡ None
   none_trips = none_later (first_wrong 3 (id_rule id_of_route column.RouteId) [] tables.routes) from_trips none_routes
+
+  pub none_of_stops : first_wrong 2 (stop_rule (has_name (stop_ids tables))) [] tables.stops ≡ None
+  none_of_stops = none_first (first_wrong 2 (stop_rule (has_name (stop_ids tables))) [] tables.stops) from_routes none_stops
+
+  none_times : from_times ≡ None
+  none_times = none_later (first_wrong 4 (trip_rule (has_name (route_ids tables)) (has_name (service_ids tables))) [] tables.trips) from_times none_trips
+
+  pub none_of_times : first_wrong 5 (time_rule (has_name (trip_ids tables)) (has_name (stop_ids tables))) [] tables.stop_times ≡ None
+  none_of_times = none_first (first_wrong 5 (time_rule (has_name (trip_ids tables)) (has_name (stop_ids tables))) [] tables.stop_times) from_calendars none_times
+
+  none_calendars : from_calendars ≡ None
+  none_calendars = none_later (first_wrong 5 (time_rule (has_name (trip_ids tables)) (has_name (stop_ids tables))) [] tables.stop_times) from_calendars none_times
+
+  none_dates : from_dates ≡ None
+  none_dates = none_later (first_wrong 6 (id_rule id_of_calendar column.ServiceId) [] tables.calendars) from_dates none_calendars
+
+  pub none_of_transfers : from_transfers ≡ None
+  none_of_transfers = none_later (first_wrong 7 date_rule [] tables.dates) from_transfers none_dates
 
   pub stops_apart : AreApart id_of_stop tables.stops
   stops_apart =

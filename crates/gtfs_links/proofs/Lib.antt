@@ -1,3 +1,4 @@
+pub mod CalledFacts
 pub mod CallFacts
 pub mod CheckFacts
 pub mod DistinctFacts
@@ -5,5 +6,6 @@ pub mod FaultFacts
 pub mod FeedFacts
 pub mod IndexFacts
 pub mod KeyFacts
+pub mod ResolvedFacts
 pub mod RuleFacts
 pub mod TimeFacts

@@ -4,3 +4,4 @@ pub mod Index
 pub mod Keys
 pub mod Linked
 pub mod Seen
+pub mod Resolved

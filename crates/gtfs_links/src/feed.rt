@@ -1,5 +1,6 @@
 ghost use Rattle.std.specs.Prelude.{◌≡◌, ◌≤◌, IfOk};
 ghost use Rattle.otp_model.specs.Rows.{AreTables};
+ghost use Rattle.gtfs_links.specs.Resolved.{IsResolved};
 ghost use Rattle.gtfs_links.specs.Linked.{AreNumbers, Links, feed_of, linked_of, passed_of};
 
 use crate::calls::{called_twice, count_unnamed};
@@ -47,7 +48,8 @@ pub fn link(
 ) -> Result<Linked, FeedFault>
     requires tables { AreTables tables.now }
     requires scale { scale ≤ 111195 }
-    ensures { Links result (linked_of tables.now zone_name.now scale) }
+    ensures links { Links result (linked_of tables.now zone_name.now scale) }
+    ensures resolved { IfOk result IsResolved }
 {
     let Ok(indexes) = Indexes::of(alloc, tables) else {
         return Err(FeedFault::Memory);

@@ -1,11 +1,11 @@
-ghost use Rattle.std.specs.Prelude.{◌≢◌, [], IfOk};
+ghost use Rattle.std.specs.Prelude.{◌≢◌, ◌<◌, [], IfOk};
 ghost use Rattle.otp_model.specs.Rows.{AreRead, AreTables, IsAgencyRow, IsCalendarRow, IsDateRow, IsRouteRow, IsStopRow, IsStopTimeRow, IsTransferLine, IsTripRow};
 
 use crate::{Linked, TimeRow, TransferRow, link};
 use otp_base::{List, Memory, Text, number};
 use otp_model::{
-    AgencyRow, CalendarRow, DateRow, FeedFault, RouteRow, StopRow, StopTimeRow, Tables,
-    TransferLine, TripRow,
+    AgencyRow, CalendarRow, DateRow, FeedFault, RouteRow, Stop, StopRow, StopTimeRow, Tables,
+    TransferLine, Trip, TripRow,
 };
 use std::alloc::Global;
 use std::test::Fail;
@@ -31,7 +31,9 @@ fn filled(alloc: Global, text: &str) -> Result<Text, Memory>
     Text::from_str(alloc, text)
 }
 
-fn digit(text: &str) -> u32 {
+fn digit(text: &str) -> u32
+    ensures { result < 10 }
+{
     match number(text) {
         Some(n) if n < 10 => n as u32,
         _ => 0,
@@ -163,29 +165,34 @@ fn rows<T: Made>(alloc: Global, lines: &[Fields]) -> Result<List<T>, Memory>
     Ok(rows)
 }
 
-/// The feed: four stops, of which C is in the station P, and three trips, of which T3 has one call.
-const FILES: [&[Fields]; 8] = [
-    &[["Z", "", ""]],
-    &[
-        ["A", "0", ""],
-        ["B", "0", ""],
-        ["C", "0", "P"],
-        ["P", "1", ""],
-    ],
-    &[["Q", "", ""], ["R", "", ""]],
-    &[["R", "S", "T3"], ["Q", "S", "T1"], ["R", "X", "T2"]],
-    &[
-        ["T3", "A", "1"],
-        ["T1", "A", "1"],
-        ["T1", "", "2"],
-        ["T1", "P", "3"],
-        ["T2", "C", "1"],
-        ["T2", "B", "3"],
-    ],
-    &[["S", "", ""]],
-    &[["S", "0", ""], ["X", "0", ""]],
-    &[["A", "C", ""], ["", "B", "T2"]],
+// The feed: four stops, of which C is in the station P, and three trips, of which T3 has one call.
+const AGENCIES: &[Fields] = &[["Z", "", ""]];
+
+const STOPS: &[Fields] = &[
+    ["A", "0", ""],
+    ["B", "0", ""],
+    ["C", "0", "P"],
+    ["P", "1", ""],
 ];
+
+const ROUTES: &[Fields] = &[["Q", "", ""], ["R", "", ""]];
+
+const TRIPS: &[Fields] = &[["R", "S", "T3"], ["Q", "S", "T1"], ["R", "X", "T2"]];
+
+const STOP_TIMES: &[Fields] = &[
+    ["T3", "A", "1"],
+    ["T1", "A", "1"],
+    ["T1", "", "2"],
+    ["T1", "P", "3"],
+    ["T2", "C", "1"],
+    ["T2", "B", "3"],
+];
+
+const CALENDARS: &[Fields] = &[["S", "", ""]];
+
+const DATES: &[Fields] = &[["S", "0", ""], ["X", "0", ""]];
+
+const TRANSFERS: &[Fields] = &[["A", "C", ""], ["", "B", "T2"]];
 
 /// Other rows for a file.
 struct Change {
@@ -193,29 +200,28 @@ struct Change {
     lines: &'static [Fields],
 }
 
-fn lines(file: usize, changes: &[Change]) -> &'static [Fields] {
+/// The rows of a file, the feed's own where nothing changes them.
+fn lines(file: usize, own: &'static [Fields], changes: &[Change]) -> &'static [Fields] {
+    let mut lines = own;
     for change in changes {
         if change.file == file {
-            return change.lines;
+            lines = change.lines;
         }
     }
-    match FILES.get(file - 1) {
-        Some(lines) => *lines,
-        None => &[],
-    }
+    lines
 }
 
 fn tables(alloc: Global, changes: &[Change]) -> Result<Tables, Memory>
     ensures { IfOk result AreTables }
 {
-    let agencies = rows(alloc, lines(1, changes))?;
-    let stops = rows(alloc, lines(2, changes))?;
-    let routes = rows(alloc, lines(3, changes))?;
-    let trips = rows(alloc, lines(4, changes))?;
-    let stop_times = rows(alloc, lines(5, changes))?;
-    let calendars = rows(alloc, lines(6, changes))?;
-    let dates = rows(alloc, lines(7, changes))?;
-    let transfers = rows(alloc, lines(8, changes))?;
+    let agencies = rows(alloc, lines(1, AGENCIES, changes))?;
+    let stops = rows(alloc, lines(2, STOPS, changes))?;
+    let routes = rows(alloc, lines(3, ROUTES, changes))?;
+    let trips = rows(alloc, lines(4, TRIPS, changes))?;
+    let stop_times = rows(alloc, lines(5, STOP_TIMES, changes))?;
+    let calendars = rows(alloc, lines(6, CALENDARS, changes))?;
+    let dates = rows(alloc, lines(7, DATES, changes))?;
+    let transfers = rows(alloc, lines(8, TRANSFERS, changes))?;
     Ok(Tables {
         agencies,
         stops,
@@ -417,26 +423,66 @@ const CASES: [Case; 18] = [
     },
 ];
 
+/// Whether the answer is the fault of the case.
+fn is_fault(answer: &Result<Linked, FeedFault>, case: &Case) -> bool {
+    match answer {
+        Err(
+            FeedFault::At {
+                cause,
+                file,
+                row,
+                column,
+            },
+        ) => {
+            *cause == case.fault.0
+                && *file == case.fault.1
+                && *row == case.fault.2
+                && column.as_str() == case.column
+        }
+        _ => false,
+    }
+}
+
 #[test]
 fn answers_the_first_fault(rt: HostRuntime) -> Result<(), Fail> {
     let alloc = rt.alloc();
     for case in &CASES {
-        match linked(alloc, case.changes)? {
-            Err(
-                FeedFault::At {
-                    cause,
-                    file,
-                    row,
-                    column,
-                },
-            ) => {
-                assert_eq!(rt; (cause, file, row), case.fault, "{}", case.what);
-                assert_eq!(rt; column.as_str(), case.column, "{}", case.what);
-            }
-            _ => assert!(rt; false, "{}", case.what),
-        }
+        let answer = linked(alloc, case.changes)?;
+        assert!(rt; is_fault(&answer, case), "{}", case.what);
     }
     Ok(())
+}
+
+fn is_stop(stop: &Stop, id: &str, kind: u8, parent: Option<u32>) -> bool {
+    stop.id.as_str() == id && stop.kind == kind && stop.parent == parent
+}
+
+fn is_trip(trip: &Trip, id: &str, route: u32, service: u32) -> bool {
+    trip.id.as_str() == id && trip.route == route && trip.service == service
+}
+
+/// A call without an arrival, at which nobody boards.
+fn time(row: u64, trip: u32, seq: u32, stop: u32, alight: bool) -> TimeRow {
+    TimeRow {
+        row,
+        trip,
+        seq,
+        stop,
+        arrival: None,
+        departure: Some(60),
+        board: false,
+        alight,
+    }
+}
+
+fn transfer(from: Option<u32>, to: Option<u32>, narrow: bool) -> TransferRow {
+    TransferRow {
+        from,
+        to,
+        kind: 2,
+        minimum: 90,
+        narrow,
+    }
 }
 
 #[test]
@@ -446,70 +492,34 @@ fn links_a_feed(rt: HostRuntime) -> Result<(), Fail> {
         assert!(rt; false);
         return Ok(());
     };
-    // -3,001 * 1,000 / 1,000 and 2,000 * 111,195 / 1,000.
-    for (stop, (id, kind, parent)) in feed.stops.as_slice().iter().zip([
+    let stops = [
         ("A", 0, None),
         ("B", 0, None),
         ("C", 0, Some(3)),
         ("P", 1, None),
-    ]) {
-        assert_eq!(rt; (stop.id.as_str(), stop.name.as_str()), (id, "name"));
-        assert_eq!(rt;
-            (stop.x, stop.y, stop.kind, stop.parent),
-            (-3_001, 222_390, kind, parent)
-        );
+    ];
+    for (stop, (id, kind, parent)) in feed.stops.as_slice().iter().zip(stops) {
+        assert!(rt; is_stop(stop, id, kind, parent));
+        // -3,001 * 1,000 / 1,000 and 2,000 * 111,195 / 1,000.
+        assert_eq!(rt; (stop.x, stop.y), (-3_001, 222_390));
     }
-    for (trip, (id, route, service)) in feed
-        .trips
-        .as_slice()
-        .iter()
-        .zip([("T1", 0, 0), ("T2", 1, 1)])
-    {
-        assert_eq!(rt;
-            (trip.id.as_str(), trip.route, trip.service),
-            (id, route, service)
-        );
+    let trips = [("T1", 0, 0), ("T2", 1, 1)];
+    for (trip, (id, route, service)) in feed.trips.as_slice().iter().zip(trips) {
+        assert!(rt; is_trip(trip, id, route, service));
     }
-    let time = |row, trip, seq, stop, alight| TimeRow {
-        row,
-        trip,
-        seq,
-        stop,
-        arrival: None,
-        departure: Some(60),
-        board: false,
-        alight,
-    };
-    for (row, wanted) in feed.times.as_slice().iter().zip([
+    let times = [
         time(2, 0, 1, 0, true),
         time(4, 0, 3, 3, false),
         time(5, 1, 1, 2, true),
         time(6, 1, 3, 1, true),
-    ]) {
-        assert!(rt; *row == wanted);
-    }
-    let transfer = |from, to, narrow| TransferRow {
-        from,
-        to,
-        kind: 2,
-        minimum: 90,
-        narrow,
-    };
-    for (row, wanted) in feed.transfers.as_slice().iter().zip([
+    ];
+    assert!(rt; feed.times.as_slice() == times.as_slice());
+    let transfers = [
         transfer(Some(0), Some(2), false),
         transfer(None, Some(1), true),
-    ]) {
-        assert!(rt; *row == wanted);
-    }
-    assert_eq!(rt;
-        (
-            feed.stops.len(),
-            feed.trips.len(),
-            feed.times.len(),
-            feed.transfers.len()
-        ),
-        (4, 2, 4, 2)
-    );
+    ];
+    assert!(rt; feed.transfers.as_slice() == transfers.as_slice());
+    assert_eq!(rt; (feed.stops.len(), feed.trips.len()), (4, 2));
     // A row without a stop, and the trip T3.
     assert_eq!(rt; feed.passed, 2);
     Ok(())

@@ -1,0 +1,178 @@
+-- What holds of the feed of tables without a fault.
+use Rattle.std.proofs.Common.{◌≡◌, ◌≢◌, ℕ, ◌+◌, ◌-◌, ◌<◌, ◌≤◌, ◌^◌, List, [], ◌∷◌, ◌++◌, length, map, get_or, suc, zero, Bool, true, false, cond, not, ◌&&◌, Option, None, Some, IfSome, refl, sym, ap, subst, ◌∙◌, arith, length-append, ℤ, pos, negsuc}
+use Rattle.std.specs.Option.{option_to_list}
+use Rattle.std.specs.Prelude.{count_by, nat_eq, nat_le, if◌then◌else◌}
+use Rattle.std.specs.List.{All, AllPairs, filter, list_any}
+use Rattle.std.proofs.lemmas.Int.{ints}
+use Rattle.std.proofs.lemmas.List.{length-map}
+use Rattle.std.proofs.lemmas.List.Elements.{All-append, All-cons, All-head, All-map, All-nil, All-tail}
+use Rattle.std.proofs.lemmas.List.Kept.{AllPairs-cons, AllPairs-filter}
+use Rattle.std.proofs.lemmas.List.Sums.{count_by-le-length, length-filter}
+use Rattle.name_index.proofs.SightFacts.{place-below}
+use Rattle.otp_model.proofs.Lengths.{scaled_within, whole_within}
+use Rattle.otp_model.specs.Rows.{AreTables, IsStopRow, IsStopTimeRow, IsTransferLine, IsWithin}
+use Rattle.otp_model.specs.Sights.{has_name, place_of}
+use Rattle.otp_model.specs.declared.feed_fault.FeedFault.{FeedFault}
+use Rattle.otp_model.specs.declared.links.TimeRow.{TimeRow}
+use Rattle.otp_model.specs.declared.tables.StopRow.{StopRow}
+use Rattle.otp_model.specs.declared.tables.StopTimeRow.{StopTimeRow}
+use Rattle.otp_model.specs.declared.tables.Tables.{Tables}
+use Rattle.otp_model.specs.declared.tables.TransferLine.{TransferLine}
+use Rattle.otp_model.specs.declared.tables.TripRow.{TripRow}
+use Rattle.gtfs_links.specs.declared.wrong.Column.TheVariants as column
+use Rattle.gtfs_links.specs.declared.wrong.Wrong.{Wrong}
+use Rattle.gtfs_links.specs.Faults.{duplicate, first_wrong, unknown}
+use Rattle.gtfs_links.specs.Linked.{IsOtherTrip, fault_of, feed_of, is_kept, is_unnamed, kept_trips, number_if, passed_of, stop_at, stop_ids, time_at, time_if, times_from, transfer_at, trip_ids}
+use Rattle.gtfs_links.specs.Resolved.{AreOtherStops, AreOtherTrips, IsNumberOf, IsResolved, IsResolvedStop, IsResolvedTime, IsResolvedTransfer}
+use Rattle.gtfs_links.specs.Rules.{id_of_stop, id_of_trip, is_empty, is_same_call, is_unknown, stop_rule, stop_wrong, time_rule, time_wrong, transfer_rule, transfer_wrong, trip_rule}
+use Rattle.gtfs_links.proofs.CalledFacts.{IsApartFrom, called_twice, calls_apart, none_same}
+use Rattle.gtfs_links.proofs.DistinctFacts.{none_row, none_rest, rows_related}
+use Rattle.gtfs_links.proofs.RuleFacts.{time_none}
+use Rattle.gtfs_links.proofs.FeedFacts.{none_of_stops, none_of_times, none_of_transfers, stops_apart, trips_apart}
+
+-- what the rule says of each row, where nothing is wrong
+pub each_fine : {R : Type 0} (file : ℕ) (rule : List R → R → Option Wrong) (Q : R → Type 0) (says : (before : List R) (row : R) → rule before row ≡ None → Q row)
+    (before rows : List R) → first_wrong file rule before rows ≡ None → All Q rows
+unfolding first_wrong
+each_fine file rule Q says before [] h = All-nil Q
+each_fine file rule Q says before (row ∷ rows) h =
+    let fine = none_row file (length before + 1) (rule before row) (first_wrong file rule (before ++ row ∷ []) rows) h in
+    let rest = none_rest file (length before + 1) (rule before row) (first_wrong file rule (before ++ row ∷ []) rows) h in
+    All-cons Q row rows (says before row fine) (each_fine file rule Q says (before ++ row ∷ []) rows rest)
+
+-- a column with a value that isn't unknown
+cond_none : (b : Bool) (w : Wrong) (later : Option Wrong) → cond b (Some w) later ≡ None → b ≡ false
+cond_none true w later h = cc h
+cond_none false w later h = refl
+
+cond_later : (b : Bool) (w : Wrong) (later : Option Wrong) → cond b (Some w) later ≡ None → later ≡ None
+cond_later true w later h = cc h
+cond_later false w later h = h
+
+stop_fine : (repeated : Bool) (known : List ℕ → Bool) (row : StopRow) → stop_wrong repeated known row ≡ None → is_unknown known row.parent_station ≡ false
+stop_fine repeated known row h = cond_none _ (unknown column.ParentStation) None (cond_later repeated (duplicate column.StopId) _ h)
+
+time_fine : (repeated : Bool) (trips stops : List ℕ → Bool) (row : StopTimeRow) → time_wrong repeated trips stops row ≡ None → is_unknown stops row.stop_id ≡ false
+time_fine repeated trips stops row h =
+    cond_none _ (unknown column.StopId) None (cond_later (not (trips row.trip_id)) (unknown column.TripId) _ (cond_later repeated (duplicate column.StopSequence) _ h))
+
+from_fine : (stops : List ℕ → Bool) (row : TransferLine) → transfer_wrong stops row ≡ None → is_unknown stops row.from_stop_id ≡ false
+from_fine stops row h = cond_none _ (unknown column.FromStopId) _ h
+
+to_fine : (stops : List ℕ → Bool) (row : TransferLine) → transfer_wrong stops row ≡ None → is_unknown stops row.to_stop_id ≡ false
+to_fine stops row h = cond_none _ (unknown column.ToStopId) None (cond_later (is_unknown stops row.from_stop_id) (unknown column.FromStopId) _ h)
+
+-- a number stands for a record
+number_of : (ids : List (List ℕ)) (id : List ℕ) → is_unknown (has_name ids) id ≡ false → IsNumberOf (length ids) (number_if ids id)
+number_of ids id h = by (is_empty id) (has_name ids id) refl h
+  where
+    by : (empty known : Bool) → has_name ids id ≡ known → (not empty && not known) ≡ false → IsNumberOf (length ids) (if empty then None else Some (place_of ids id))
+    by true known e f = tt
+    by false true e f = place-below ids id e
+    by false false e f = cc f
+
+pairs_map : {X Y : Type 0} (f : X → Y) (R : Y → Y → Type 0) (xs : List X) → AllPairs (λ (a b : X). R (f a) (f b)) xs → AllPairs R (map f xs)
+pairs_map f R [] h = λ i j d l m. absurd (omega (arith, m))
+pairs_map f R (x ∷ xs) h =
+    AllPairs-cons R (f x) (map f xs) (All-map (R (f x)) f xs (λ k d l. h zero (suc k) d (omega arith) (omega (arith, l))))
+    (pairs_map f R xs (λ i j d l m. h (suc i) (suc j) d (omega (arith, l)) (omega (arith, m))))
+
+module _ (stops : List StopRow) (ids trips : List (List ℕ)) where
+  -- a row's time, if it is one of the trips'
+  one_time : (n : ℕ) (row : StopTimeRow) → IsStopTimeRow row → is_unknown (has_name ids) row.stop_id ≡ false → All (IsResolvedTime (length ids) (length trips)) (option_to_list (time_if stops ids trips n row))
+  one_time n row read h = by (is_empty row.stop_id) (has_name ids row.stop_id) refl (has_name trips row.trip_id) refl h
+    where
+      by : (empty known : Bool) → has_name ids row.stop_id ≡ known → (kept : Bool) → has_name trips row.trip_id ≡ kept → (not empty && not known) ≡ false
+          → All (IsResolvedTime (length ids) (length trips)) (option_to_list (if not empty && kept then Some (time_at stops ids trips n row) else None))
+      by true known e kept k f = All-nil (IsResolvedTime (length ids) (length trips))
+      by false known e false k f = All-nil (IsResolvedTime (length ids) (length trips))
+      by false true e true k f = All-cons (IsResolvedTime (length ids) (length trips)) _ [] (record {
+        stop = place-below ids row.stop_id e;
+        trip = place-below trips row.trip_id k;
+        seq = read.sequence;
+        arrival = read.arrival;
+        departure = read.departure;
+      }) (All-nil (IsResolvedTime (length ids) (length trips)))
+      by false false e true k f = cc f
+
+  pub times_resolved : (n : ℕ) (rows : List StopTimeRow) → All IsStopTimeRow rows → All (λ (row : StopTimeRow). is_unknown (has_name ids) row.stop_id ≡ false) rows
+      → All (IsResolvedTime (length ids) (length trips)) (times_from stops ids trips n rows)
+  unfolding times_from
+  times_resolved n [] read fine = All-nil (IsResolvedTime (length ids) (length trips))
+  times_resolved n (row ∷ rows) read fine =
+      All-append (IsResolvedTime (length ids) (length trips)) (option_to_list (time_if stops ids trips n row)) (times_from stops ids trips (n + 1) rows)
+      (one_time n row (All-head IsStopTimeRow row rows read) (All-head (λ (r : StopTimeRow). is_unknown (has_name ids) r.stop_id ≡ false) row rows fine))
+      (times_resolved (n + 1) rows (All-tail IsStopTimeRow row rows read) (All-tail (λ (r : StopTimeRow). is_unknown (has_name ids) r.stop_id ≡ false) row rows fine))
+
+  few_one : (o : Option TimeRow) → length (option_to_list o) ≤ 1
+  few_one None = omega arith
+  few_one (Some time) = omega arith
+
+  pub times_few : (n : ℕ) (rows : List StopTimeRow) → length (times_from stops ids trips n rows) ≤ length rows
+  unfolding times_from
+  times_few n [] = omega arith
+  times_few n (row ∷ rows) =
+      omega (arith, times_few (n + 1) rows, few_one (time_if stops ids trips n row), length-append (option_to_list (time_if stops ids trips n row)) (times_from stops ids trips (n + 1) rows))
+
+module _ (zone : List ℕ) (tables : Tables) (scale : ℕ) (read : AreTables tables) (fine : fault_of zone tables ≡ None) (small : scale ≤ 111195) where
+  known : List ℕ → Bool
+  known = has_name (stop_ids tables)
+
+  count : length (stop_ids tables) ≡ length (feed_of scale tables).stops
+  count = length-map tables.stops id_of_stop ∙ sym (length-map tables.stops (stop_at scale (stop_ids tables)))
+
+  kept_count : length (map id_of_trip (kept_trips tables)) ≡ length (feed_of scale tables).trips
+  kept_count = length-map (kept_trips tables) id_of_trip ∙ sym (length-map (kept_trips tables) _)
+
+  few_kept_rows : length (kept_trips tables) ≤ length tables.trips
+  few_kept_rows = omega (arith, length-filter (is_kept tables.stop_times) tables.trips, count_by-le-length (is_kept tables.stop_times) tables.trips)
+
+  stop_resolved : All (IsResolvedStop (length (stop_ids tables))) (feed_of scale tables).stops
+  stop_resolved = All-map (IsResolvedStop (length (stop_ids tables))) (stop_at scale (stop_ids tables)) tables.stops (λ k d l.
+      let row = read.stops.each k d l in
+      let parents = each_fine 2 (stop_rule (has_name (stop_ids tables))) (λ (r : StopRow). is_unknown (has_name (stop_ids tables)) r.parent_station ≡ false)
+      (λ before r h. stop_fine _ (has_name (stop_ids tables)) r h) [] tables.stops (none_of_stops zone tables fine) in
+      record {
+        parent = number_of (stop_ids tables) (get_or tables.stops k d).parent_station (parents k d l);
+        x = whole_within _ (scaled_within _ scale row.lon small);
+        y = whole_within _ (scaled_within _ 111195 (wide _ row.lat) (omega arith));
+      })
+    where
+      wide : (z : ℤ) → IsWithin 90000000 z → IsWithin 180000000 z
+      wide (pos a) h = record { low = omega (arith, ints, h.high); high = omega (arith, ints, h.high) }
+      wide (negsuc a) h = record { low = omega (arith, ints, h.low); high = omega (arith, ints, h.low) }
+
+  pub feed_resolved : IsResolved (feed_of scale tables)
+  feed_resolved = record {
+    few_stops = omega (arith, read.stops.few, length-map tables.stops (stop_at scale (stop_ids tables)));
+    few_trips = omega (arith, read.trips.few, few_kept_rows, length-map (kept_trips tables) id_of_trip, kept_count);
+    few_times = omega (arith, read.stop_times.few, times_few tables.stops (stop_ids tables) (map id_of_trip (kept_trips tables)) 1 tables.stop_times);
+    few_transfers = omega (arith, read.transfers.few, length-map tables.transfers (transfer_at (stop_ids tables)));
+    few_passed = omega (arith, read.stop_times.few, read.trips.few, count_by-le-length is_unnamed tables.stop_times);
+    stop_ids = pairs_map (stop_at scale (stop_ids tables)) AreOtherStops tables.stops (stops_apart zone tables fine);
+    trip_ids = pairs_map _ AreOtherTrips (kept_trips tables) (AllPairs-filter IsOtherTrip (is_kept tables.stop_times) tables.trips (trips_apart zone tables fine));
+    stops = subst (λ (n : ℕ). All (IsResolvedStop n) (feed_of scale tables).stops) count stop_resolved;
+    times = subst (λ (n : ℕ). All (IsResolvedTime n (length (feed_of scale tables).trips)) (feed_of scale tables).times) count
+        (subst (λ (n : ℕ). All (IsResolvedTime (length (stop_ids tables)) n) (feed_of scale tables).times) kept_count
+        (times_resolved tables.stops (stop_ids tables) (map id_of_trip (kept_trips tables)) 1 tables.stop_times read.stop_times.each
+        (each_fine 5 (time_rule (has_name (trip_ids tables)) (has_name (stop_ids tables))) (λ (r : StopTimeRow). is_unknown (has_name (stop_ids tables)) r.stop_id ≡ false) (λ before r h. time_fine (list_any (is_same_call r) before) (has_name (trip_ids tables)) (has_name (stop_ids tables)) r h) []
+        tables.stop_times (none_of_times zone tables fine))));
+    transfers = subst (λ (n : ℕ). All (IsResolvedTransfer n) (feed_of scale tables).transfers) count
+        (All-map (IsResolvedTransfer (length (stop_ids tables))) (transfer_at (stop_ids tables)) tables.transfers (λ k d l. record {
+          from = number_of (stop_ids tables) (get_or tables.transfers k d).from_stop_id
+              (each_fine 8 (transfer_rule (has_name (stop_ids tables))) (λ (r : TransferLine). is_unknown (has_name (stop_ids tables)) r.from_stop_id ≡ false) (λ before r h. from_fine (has_name (stop_ids tables)) r h) []
+              tables.transfers (none_of_transfers zone tables fine) k d l);
+          to = number_of (stop_ids tables) (get_or tables.transfers k d).to_stop_id
+              (each_fine 8 (transfer_rule (has_name (stop_ids tables))) (λ (r : TransferLine). is_unknown (has_name (stop_ids tables)) r.to_stop_id ≡ false) (λ before r h. to_fine (has_name (stop_ids tables)) r h) []
+              tables.transfers (none_of_transfers zone tables fine) k d l);
+          kind = (read.transfers.each k d l).kind;
+          minimum = (read.transfers.each k d l).minimum;
+        }));
+    called = λ k l.
+        called_twice tables.stops (stop_ids tables) tables.stop_times tables.trips (AllPairs-filter IsOtherTrip (is_kept tables.stop_times) tables.trips (trips_apart zone tables fine)) k
+        (omega (arith, l, kept_count, length-map (kept_trips tables) id_of_trip));
+    calls = calls_apart tables.stops (stop_ids tables) (map id_of_trip (kept_trips tables)) 1 tables.stop_times
+        (rows_related IsApartFrom 5 (time_rule (has_name (trip_ids tables)) (has_name (stop_ids tables)))
+        (λ before r h. none_same r before (time_none (list_any (is_same_call r) before) (has_name (trip_ids tables)) (has_name (stop_ids tables)) r h)) [] tables.stop_times (λ i j d l m. absurd (omega (arith, m)))
+        (none_of_times zone tables fine));
+  }
