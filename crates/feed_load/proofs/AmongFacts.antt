@@ -19,7 +19,7 @@ up xs rises i j h within = elim (cases_eq i j) [
 pub among_found : (xs : List ℕ) (x : ℕ) (r : Result ℕ ℕ) → IsStrictlyIncreasing xs → IsBinarySearchResult (λ y. nat_cmp y x) xs r → is_ok r ≡ is_among xs x
 among_found xs x (Ok i) rises h =
     let found = searched xs x (Ok i) h (up xs rises) in
-    sym (list_any-from_Any (λ (n : ℕ). n == x) xs (i, get_or xs i 0, found.0, refl, eq-eqb (get_or xs i 0) x found.1))
+    sym (list_any-from_Any (λ (n : ℕ). n == x) xs (i, get_or xs i 0, found.0, get_or_default xs i (get_or xs i 0) 0 found.0, eq-eqb (get_or xs i 0) x found.1))
 among_found xs x (Err i) rises h =
     let none = searched xs x (Err i) h (up xs rises) in
     sym (list_any_none (λ (n : ℕ). n == x) xs (λ k d within.

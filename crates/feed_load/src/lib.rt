@@ -2,6 +2,7 @@
 #![tactic(auto)]
 
 mod by_trip;
+mod counts;
 mod gap;
 mod runs;
 mod trip_calls;

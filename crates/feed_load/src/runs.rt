@@ -20,7 +20,7 @@ pub struct ServiceDay {
 
 impl ServiceDay {
     /// Whether a service runs on the day.
-    fn has(&self, service: u32) -> bool
+    pub fn has(&self, service: u32) -> bool
         requires { IsStrictlyIncreasing self.now.services }
         ensures { result ≡ is_among self.now.services service }
     {

@@ -1,0 +1,4 @@
+use Rattle.feed_load.proofs.runs.call_from.Goals as goal
+
+pub returns : goal.returns
+returns c = ?
