@@ -5,3 +5,4 @@ pub mod GroupFacts
 pub mod OrderFacts
 pub mod RangeFacts
 pub mod RowFacts
+pub mod RunFacts

@@ -1,12 +1,14 @@
 -- The runs of a feed: one for each day and each trip whose service runs on it, by day and then by trip (GTFS
 -- Schedule reference, `stop_times.txt` and "Time": times count from noon less 12 hours of the service day).
-use Rattle.std.specs.Prelude.{◌==◌, ℕ, ℤ, pos, ◌+ℤ◌, List, [], ◌∷◌, length, map, Option, None, Some, Bool, if◌then◌else◌, slice_get, sum_by}
+use Rattle.std.specs.Prelude.{◌==◌, ◌^◌, ℕ, ℤ, pos, ◌+ℤ◌, List, [], ◌∷◌, length, map, Option, None, Some, Bool, if◌then◌else◌, slice_get, sum_by}
 use Rattle.std.specs.List.{flat_map, list_any, range_with_len}
 use Rattle.otp_model.specs.declared.tables.Tables.{Tables}
 use Rattle.otp_model.specs.declared.timetable.Call.{Call}
 use Rattle.otp_model.specs.declared.timetable.Run.{Run}
 use Rattle.otp_model.specs.declared.timetable.Trip.{Trip}
 use Rattle.otp_model.specs.declared.timetable.Zone.{Zone}
+use Rattle.std.specs.List.Sorted.{IsStrictlyIncreasing}
+use Rattle.otp_model.specs.Ranges.{IsServiceDay}
 use Rattle.otp_model.specs.Rows.{IsWithin}
 use Rattle.otp_model.specs.declared.options.Options.{Options}
 use Rattle.feed_load.specs.declared.runs.ServiceDay.{ServiceDay}
@@ -41,9 +43,13 @@ run_of day n (Some trip) None = []
 run_of day n (Some trip) (Some calls) =
     if is_among day.services trip.service then record { trip = n; day = day.day; calls = map (call_from day.start) calls } ∷ [] else []
 
+-- the same, where trips and their calls stand in two lists
+abbrev pub run_at : ServiceDay → List Trip → List (List Call) → ℕ → List Run
+run_at day trips calls n = run_of day n (slice_get trips n) (slice_get calls n)
+
 -- the runs of a day, trip by trip
 abbrev pub runs_of_day : List Trip → List (List Call) → ServiceDay → List Run
-runs_of_day trips calls day = flat_map (λ n. run_of day n (slice_get trips n) (slice_get calls n)) (range_with_len 0 (length trips))
+runs_of_day trips calls day = flat_map (run_at day trips calls) (range_with_len 0 (length trips))
 
 -- the runs of the days
 abbrev pub runs_of : List Trip → List (List Call) → List ServiceDay → List Run
@@ -52,3 +58,9 @@ runs_of trips calls days = flat_map (runs_of_day trips calls) days
 -- how many calls runs have
 abbrev pub call_count : List Run → ℕ
 call_count runs = sum_by (λ run. length run.calls) runs
+
+-- the services of a day rise, and it starts in the years that days may be of
+pub record IsSoundDay (day : ServiceDay) : Type 0 where
+  pub of_years : IsServiceDay day.day
+  pub starts : IsWithin (2 ^ 35) day.start
+  pub rises : IsStrictlyIncreasing day.services

@@ -1,7 +1,6 @@
 ghost use Rattle.std.specs.Prelude.{◌≡◌, ◌+◌, ◌≤◌, Some, length, min};
 ghost use Rattle.std.specs.List.{All};
-ghost use Rattle.std.specs.List.Sorted.{IsStrictlyIncreasing};
-ghost use Rattle.feed_load.specs.Runs.{call_count, run_of, runs_of, runs_of_day};
+ghost use Rattle.feed_load.specs.Runs.{IsSoundDay, call_count, run_of, runs_of, runs_of_day};
 
 use crate::runs::ServiceDay;
 use otp_base::List;
@@ -13,7 +12,7 @@ const TOO_MANY: u64 = 40_000_001;
 /// How many calls the runs of the days have; more than 40,000,000 are counted as one more than these.
 pub fn count_calls(days: &[ServiceDay], trips: &[Trip], calls: &[List<Call>]) -> u64
     requires same { length calls.now ≡ length trips.now }
-    requires services { All (λ day. IsStrictlyIncreasing day.services) days.now }
+    requires days { All IsSoundDay days.now }
     ensures { result ≡ min (call_count (runs_of trips.now calls.now days.now)) 40000001 }
 {
     let mut count = 0;
@@ -27,7 +26,7 @@ pub fn count_calls(days: &[ServiceDay], trips: &[Trip], calls: &[List<Call>]) ->
 fn count_day(count: u64, day: &ServiceDay, trips: &[Trip], calls: &[List<Call>]) -> u64
     requires few { count ≤ 40000001 }
     requires same { length calls.now ≡ length trips.now }
-    requires services { IsStrictlyIncreasing day.now.services }
+    requires day { IsSoundDay day.now }
     ensures { result ≡ min (count + call_count (runs_of_day trips.now calls.now day.now)) 40000001 }
 {
     let mut count = count;
@@ -40,7 +39,7 @@ fn count_day(count: u64, day: &ServiceDay, trips: &[Trip], calls: &[List<Call>])
 /// So many calls and those of the run of a trip, if its service runs on the day.
 fn count_run(count: u64, day: &ServiceDay, trip: &Trip, calls: &List<Call>) -> u64
     requires few { count ≤ 40000001 }
-    requires services { IsStrictlyIncreasing day.now.services }
+    requires day { IsSoundDay day.now }
     ensures { (n : _) → result ≡ min (count + call_count (run_of day.now n (Some trip.now) (Some calls.now))) 40000001 }
 {
     if !day.has(trip.service) {

@@ -3,7 +3,7 @@ ghost use Rattle.std.specs.List.{All};
 ghost use Rattle.std.specs.List.Sorted.{IsStrictlyIncreasing};
 ghost use Rattle.otp_model.specs.Ranges.{AreOptionsInRange, IsServiceDay};
 ghost use Rattle.otp_model.specs.Rows.{AreTables, IsWithin};
-ghost use Rattle.feed_load.specs.Runs.{HasClock, call_from, days_of, is_among, run_of, runs_of, runs_of_day, service_day};
+ghost use Rattle.feed_load.specs.Runs.{HasClock, IsSoundDay, call_from, days_of, is_among, run_of, runs_of, runs_of_day, service_day};
 
 use otp_base::{List, Memory};
 use otp_model::{Call, DayNo, Options, Run, Tables, Time, Trip, TripNo, Zone};
@@ -36,7 +36,8 @@ pub fn service_days(
 ) -> Result<Vec<ServiceDay>, Memory>
     requires tables { AreTables tables.now }
     requires options { AreOptionsInRange options.now }
-    ensures { IfOk result (λ days. days.items ≡ days_of tables.now options.now) }
+    ensures days { IfOk result (λ days. days.items ≡ days_of tables.now options.now) }
+    ensures sound { IfOk result (λ days. All IsSoundDay days.items) }
 {
     let mut days = Vec::new(alloc);
     for n in 0..options.days {
@@ -54,7 +55,8 @@ fn service_day(
 ) -> Result<ServiceDay, Memory>
     requires tables { AreTables tables.now }
     requires day { IsServiceDay day }
-    ensures { IfOk result (λ made. made ≡ service_day tables.now zone.now day) }
+    ensures made { IfOk result (λ made. made ≡ service_day tables.now zone.now day) }
+    ensures sound { IfOk result IsSoundDay }
 {
     let start = day_start(zone, day)?;
     let services = active(alloc, tables, day)?;
@@ -67,7 +69,7 @@ fn service_day(
 
 /// The call on a day that starts at this time.
 fn call_from(start: Time, call: &Call) -> Call
-    requires start { IsWithin (2 ^ 40) start }
+    requires start { IsWithin (2 ^ 35) start }
     requires clocks { HasClock call.now }
     ensures { result ≡ call_from start call.now }
 {
@@ -79,7 +81,7 @@ fn call_from(start: Time, call: &Call) -> Call
 }
 
 fn calls_from(alloc: Global, start: Time, calls: &[Call]) -> Result<List<Call>, Memory>
-    requires start { IsWithin (2 ^ 40) start }
+    requires start { IsWithin (2 ^ 35) start }
     requires clocks { All HasClock calls.now }
     ensures { IfOk result (λ list. list ≡ map (call_from start) calls.now) }
 {
@@ -99,8 +101,7 @@ fn add_run(
     trip: &Trip,
     calls: &List<Call>,
 ) -> Result<(), Memory>
-    requires start { IsWithin (2 ^ 40) day.now.start }
-    requires services { IsStrictlyIncreasing day.now.services }
+    requires day { IsSoundDay day.now }
     requires clocks { All HasClock calls.now }
     ensures { OnOk result (runs.new ≡ runs.old ++ run_of day.now number (Some trip.now) (Some calls.now)) }
 {
@@ -125,8 +126,7 @@ fn add_runs(
 ) -> Result<(), Memory>
     requires few { length trips.now < 2 ^ 32 }
     requires same { length calls.now ≡ length trips.now }
-    requires start { IsWithin (2 ^ 40) day.now.start }
-    requires services { IsStrictlyIncreasing day.now.services }
+    requires day { IsSoundDay day.now }
     requires clocks { All (All HasClock) calls.now }
     ensures { OnOk result (runs.new ≡ runs.old ++ runs_of_day trips.now calls.now day.now) }
 {
@@ -145,8 +145,7 @@ pub fn runs(
 ) -> Result<List<Run>, Memory>
     requires few { length trips.now < 2 ^ 32 }
     requires same { length calls.now ≡ length trips.now }
-    requires starts { All (λ day. IsWithin (2 ^ 40) day.start) days.now }
-    requires services { All (λ day. IsStrictlyIncreasing day.services) days.now }
+    requires days { All IsSoundDay days.now }
     requires clocks { All (All HasClock) calls.now }
     ensures { IfOk result (λ runs. runs ≡ runs_of trips.now calls.now days.now) }
 {

@@ -1,4 +1,15 @@
+use Rattle.std.proofs.Common.{ℕ, ◌<◌, ◌≡◌, length, arith, refl}
+use Rattle.std.proofs.lemmas.Option.{slice_get_read}
+use Rattle.feed_load.proofs.RunFacts.{runs_step}
 use Rattle.feed_load.proofs.runs.add_runs.Goals as goal
 
 pub loop-number-preserved : goal.loop-number-preserved
-loop-number-preserved c = let h = c.in_ok-add_run.ensures in ?
+loop-number-preserved c =
+    let trips = c.args.trips.now in
+    let calls = c.args.calls.now in
+    let n = c.loop-number.number in
+    let more : n < length calls = omega (arith, c.requires.same, c.loop-number-test.true) in
+    runs_step c.args.day.now trips calls n c.index-trips-number.result c.index-calls-number.result c.args.runs.now c.loop-number.runs c.add_run.new.runs
+    (slice_get_read trips (length trips) n c.index-trips-number.result refl c.loop-number-test.true c.index-trips-number.is)
+    (slice_get_read calls (length calls) n c.index-calls-number.result refl more c.index-calls-number.is)
+    c.loop-number.invariant c.in_ok-add_run.ensures

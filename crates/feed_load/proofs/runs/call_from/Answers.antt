@@ -1,4 +1,7 @@
+use Rattle.std.proofs.Common.{◌≡◌}
+use Rattle.feed_load.proofs.RunFacts.{time_from}
 use Rattle.feed_load.proofs.runs.call_from.Goals as goal
 
 pub returns : goal.returns
-returns c = ?
+returns c =
+    rw (time_from c.args.start c.args.call.now.arrival c.requires.start c.requires.clocks.arrival, time_from c.args.start c.args.call.now.departure c.requires.start c.requires.clocks.departure)

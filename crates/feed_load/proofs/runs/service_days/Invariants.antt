@@ -1,7 +1,10 @@
 use Rattle.std.proofs.Common.{◌≡◌, ◌+ℤ◌, pos, map}
-use Rattle.std.specs.List.{range_with_len}
-use Rattle.feed_load.specs.Runs.{service_day}
+use Rattle.std.specs.List.{All, range_with_len}
+use Rattle.feed_load.specs.Runs.{IsSoundDay, service_day}
 use Rattle.feed_load.proofs.runs.service_days.Given as goal
 
 abbrev pub invariant-loop-n : goal.invariant-loop-n
-invariant-loop-n l = l.days.items ≡ map (λ n. service_day l.tables l.options.zone (l.options.first_day +ℤ pos n)) (range_with_len 0 l.n)
+invariant-loop-n l = record {
+  days : l.days.items ≡ map (λ n. service_day l.tables l.options.zone (l.options.first_day +ℤ pos n)) (range_with_len 0 l.n);
+  sound : All IsSoundDay l.days.items;
+}
