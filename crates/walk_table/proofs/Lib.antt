@@ -6,3 +6,4 @@ pub mod RowLemmas
 pub mod EdgeLemmas
 pub mod PassedLemmas
 pub mod DirectLemmas
+pub mod CountLemmas

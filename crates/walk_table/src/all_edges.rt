@@ -1,7 +1,7 @@
 ghost use Rattle.std.specs.Prelude.{◌≡◌, ◌++◌, ◌<◌, ◌≤◌, ◌^◌, length, slice_get, Some, IfErr, IfOk, IsTrue, OnOk, ◌↔◌};
 ghost use Rattle.std.specs.Option.{option_to_list};
 ghost use Rattle.otp_base.specs.Adds.{IsOnly};
-ghost use Rattle.walk_table.specs.Edges.{AreEdges, AreEdgesFrom, AreInReach, EachAt, edge_count};
+ghost use Rattle.walk_table.specs.Edges.{AreEdges, AreEdgesFrom, AreInReach, EachAt, HasMoreEdges, edge_count};
 ghost use Rattle.walk_table.specs.Faults.{IsCause, IsCauseFrom, IsOverfull};
 ghost use Rattle.walk_table.specs.Passed.{Counts, IsPassedOver};
 ghost use Rattle.walk_table.specs.Rows.{IsEdgeTo, IsGiven};
@@ -39,7 +39,8 @@ pub fn edges(
     requires speed { 0 < profile.now.speed }
     requires stops { length stops.now < 2 ^ 32 }
     ensures edges { IfOk result (λ walks. AreEdges stops.now transfers.now profile.now walks.edges) }
-    ensures few { IfOk result (λ walks. edge_count walks.edges.from ≤ 100000000) }
+    ensures count { IfOk result (λ walks. edge_count walks.edges.from ≤ 100000000) }
+    ensures few { IfOk result (λ walks. HasMoreEdges 100000000 stops.now transfers.now profile.now → ⊥) }
     ensures passed { IfOk result (λ walks. Counts (IsPassedOver stops.now) transfers.now walks.passed) }
     ensures fault { IfErr result (IsCause stops.now transfers.now profile.now) }
 {
@@ -68,7 +69,7 @@ fn edges_from_all(
     requires stops { length stops.now < 2 ^ 32 }
     ensures whole { IfOk result (λ from. length from ≡ length stops.now) }
     ensures each { IfOk result (EachAt (AreEdgesFrom stops.now transfers.now profile.now)) }
-    ensures few { IfOk result (λ from. edge_count from ≤ 100000000) }
+    ensures count { IfOk result (λ from. edge_count from ≤ 100000000) }
     ensures fault { IfErr result (IsCause stops.now transfers.now profile.now) }
 {
     let mut from = List::new(alloc);
@@ -144,14 +145,14 @@ fn edge_to(
     requires to { slice_get stops.now to_number ≡ Some to.now }
     ensures { IsOnly (IsEdgeTo stops.now rows.now profile.now number from.now to_number to.now) result }
 {
-    // No edge leads farther.
-    let square = square_within(FARTHEST, &from.point(), &to.point())?;
-    if is_barred(stops, rows, to_number, to) {
-        return None;
-    }
     if !is_given(profile, stops, rows, number, from, to_number, to) {
         return None;
     }
+    if is_barred(stops, rows, to_number, to) {
+        return None;
+    }
+    // Rows hold for no pair that is farther apart.
+    let square = square_within(FARTHEST, &from.point(), &to.point())?;
     Some(Edge {
         to: to_number,
         walk: seconds_over(profile.speed, square),
