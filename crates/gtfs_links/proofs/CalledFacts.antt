@@ -1,7 +1,7 @@
 -- Each trip kept has two calls at least, and no two of one sequence.
-use Rattle.std.proofs.Common.{◌≡◌, ◌≢◌, ℕ, ◌+◌, ◌<◌, ◌≤◌, List, [], ◌∷◌, ◌++◌, length, map, get_or, suc, zero, Bool, true, false, cond, not, ◌&&◌, ◌||◌, Option, None, Some, refl, sym, ap, ◌∙◌, arith, eq-eqb, true≢false}
+use Rattle.std.proofs.Common.{◌≡◌, ℕ, ◌+◌, ◌<◌, ◌≤◌, List, [], ◌∷◌, ◌++◌, length, map, get_or, suc, zero, Bool, true, false, cond, not, ◌&&◌, None, Some, refl, sym, ◌∙◌, arith, eq-eqb, true≢false}
 use Rattle.std.specs.Option.{option_to_list}
-use Rattle.std.specs.Prelude.{count_by, nat_eq, nat_le, if◌then◌else◌}
+use Rattle.std.specs.Prelude.{count_by, nat_eq, if◌then◌else◌}
 use Rattle.std.specs.List.{All, AllPairs, filter, list_any}
 use Rattle.std.specs.Str.{bytes_eq}
 use Rattle.std.proofs.lemmas.Bool.{false_from_ne_true, leb-true}
@@ -14,7 +14,7 @@ use Rattle.otp_model.specs.declared.links.TimeRow.{TimeRow}
 use Rattle.otp_model.specs.declared.tables.StopRow.{StopRow}
 use Rattle.otp_model.specs.declared.tables.StopTimeRow.{StopTimeRow}
 use Rattle.otp_model.specs.declared.tables.TripRow.{TripRow}
-use Rattle.gtfs_links.specs.Linked.{has_calls, is_call_of, is_kept, time_at, time_if, times_from}
+use Rattle.gtfs_links.specs.Linked.{is_call_of, is_kept, time_at, times_from}
 use Rattle.gtfs_links.specs.Resolved.{AreOtherCalls, is_time_of}
 use Rattle.gtfs_links.specs.Rules.{id_of_trip, is_empty, is_same_call}
 use Rattle.gtfs_links.proofs.CheckFacts.{has_own}
@@ -100,7 +100,7 @@ place_at id_of [] apart k d l = absurd (omega (arith, l))
 place_at id_of (row ∷ rows) apart zero d l = rw (bytes_eq-refl (id_of row)) refl
 place_at id_of (row ∷ rows) apart (suc k) d l =
     let other : bytes_eq (id_of (get_or rows k d)) (id_of row) ≡ false =
-        false_from_ne_true (bytes_eq (id_of (get_or rows k d)) (id_of row)) (λ t. apart zero (suc k) d (omega arith) l (sym (same_bytes (id_of (get_or rows k d)) (id_of row) t))) in
+    false_from_ne_true (bytes_eq (id_of (get_or rows k d)) (id_of row)) (λ t. apart zero (suc k) d (omega arith) l (sym (same_bytes (id_of (get_or rows k d)) (id_of row) t))) in
     rw other (omega (arith, place_at id_of rows (λ i j e m o. apart (suc i) (suc j) e (omega (arith, m)) (omega (arith, o))) k d (omega (arith, l))))
 
 all_kept : (times : List StopTimeRow) (rows : List TripRow) → All (λ (trip : TripRow). is_kept times trip ≡ true) (filter (is_kept times) rows)

@@ -1,7 +1,6 @@
 -- The first fault of the whole feed, file by file, where ids are looked up in indexes.
-use Rattle.std.proofs.Common.{◌≡◌, ℕ, ◌<◌, List, [], ◌∷◌, ◌++◌, length, map, get_or, suc, zero, Bool, true, ◌||◌, Option, None, Result, refl, sym, ap, subst, ◌∙◌, arith}
+use Rattle.std.proofs.Common.{◌≡◌, ℕ, List, [], ◌∷◌, ◌++◌, map, get_or, suc, zero, true, Option, None, Result, refl, sym, ap, subst, ◌∙◌, arith}
 use Rattle.std.specs.List.{All}
-use Rattle.std.proofs.lemmas.List.Elements.{All-cons, All-nil}
 use Rattle.std.specs.Str.{bytes_eq}
 use Rattle.name_index.proofs.SightFacts.{has-first_sights}
 use Rattle.name_index.proofs.TestFacts.{bytes_eq-refl, or-last}

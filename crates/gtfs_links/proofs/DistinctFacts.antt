@@ -1,6 +1,6 @@
 -- Where nothing is wrong with the rows of a file, their ids differ.
-use Rattle.std.proofs.Common.{◌≡◌, ◌≢◌, ℕ, ◌+◌, ◌<◌, List, [], ◌∷◌, ◌++◌, length, map, get_or, suc, zero, Bool, true, false, cond, ◌||◌, Option, None, Some, refl, sym, ap, ◌∙◌, arith, append_assoc}
-use Rattle.std.specs.List.{All, AllPairs, filter}
+use Rattle.std.proofs.Common.{◌≡◌, ◌≢◌, ℕ, ◌+◌, ◌<◌, List, [], ◌∷◌, ◌++◌, length, map, get_or, suc, zero, true, false, Option, None, Some, refl, ap, ◌∙◌, arith, append_assoc}
+use Rattle.std.specs.List.{All, AllPairs}
 use Rattle.std.specs.Str.{bytes_eq}
 use Rattle.std.proofs.lemmas.Bool.{false_from_ne_true}
 use Rattle.std.proofs.lemmas.List.{append-nil}
@@ -8,10 +8,10 @@ use Rattle.std.proofs.lemmas.List.Elements.{All-head, All-tail}
 use Rattle.std.proofs.lemmas.List.Quantifiers.{all_pairs_push}
 use Rattle.name_index.proofs.SightFacts.{first_sights-without}
 use Rattle.name_index.proofs.TestFacts.{bytes_eq-refl, or-left, or-right, same_bytes}
-use Rattle.otp_model.specs.Sights.{first_sights, has_name, is_other}
+use Rattle.otp_model.specs.Sights.{first_sights, has_name}
 use Rattle.otp_model.specs.declared.feed_fault.FeedFault.{FeedFault}
 use Rattle.gtfs_links.specs.declared.wrong.Wrong.{Wrong}
-use Rattle.gtfs_links.specs.Faults.{fault_at, fault_or, first_of, first_wrong}
+use Rattle.gtfs_links.specs.Faults.{fault_or, first_of, first_wrong}
 use Rattle.gtfs_links.specs.Rules.{is_repeated}
 
 -- the parts of a feed without a fault

@@ -1,10 +1,10 @@
 -- The first fault of a file, as a loop over its rows finds it.
-use Rattle.std.proofs.Common.{◌≡◌, ℕ, ◌+◌, ◌<◌, ◌≤◌, List, [], ◌∷◌, ◌++◌, length, get_or, take, drop, Option, Some, None, Result, Ok, Err, refl, sym, ap, ◌∙◌, arith, length-take}
+use Rattle.std.proofs.Common.{◌≡◌, ℕ, ◌+◌, ◌<◌, ◌≤◌, List, [], ◌∷◌, ◌++◌, length, get_or, take, drop, Option, Some, None, refl, sym, ap, ◌∙◌, arith}
 use Rattle.std.proofs.lemmas.List.{drop_more, drop_all, take_more, length-take-le}
 use Rattle.otp_model.specs.declared.feed_fault.FeedFault.{FeedFault}
 use Rattle.otp_model.specs.declared.feed_fault.FeedFault.TheVariants as feed
 use Rattle.gtfs_links.specs.declared.wrong.Wrong.{Wrong}
-use Rattle.gtfs_links.specs.Faults.{FindsAs, Finds, IsFault, fault_at, fault_or, first_of, first_wrong}
+use Rattle.gtfs_links.specs.Faults.{FindsAs, IsFault, fault_at, fault_or, first_of, first_wrong}
 
 -- the fault that was made is the one that is found
 pub finds_fault : (made fault : FeedFault) (found : Option FeedFault) → IsFault made fault → found ≡ Some fault → FindsAs made found

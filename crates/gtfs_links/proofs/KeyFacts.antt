@@ -1,5 +1,5 @@
 -- Two rows have the same key of numbers where they have the same key of texts, if the index has one of them.
-use Rattle.std.proofs.Common.{◌≡◌, ℕ, ◌+◌, List, [], ◌∷◌, length, map, Bool, true, false, cond, ◌||◌, ◌&&◌, ◌<◌, ◌++◌, get_or, take, IsTrue, ℤ, pos, refl, sym, ap, subst, ◌∙◌, arith, eq-eqb}
+use Rattle.std.proofs.Common.{◌≡◌, ℕ, ◌+◌, List, [], ◌∷◌, length, map, Bool, true, false, cond, ◌||◌, ◌<◌, ◌++◌, get_or, take, pos, refl, sym, ap, ◌∙◌, arith, eq-eqb}
 use Rattle.std.specs.Prelude.{nat_eq}
 use Rattle.std.specs.List.{All, list_any}
 use Rattle.std.specs.Ordering.{int_eq}

@@ -1,8 +1,8 @@
 -- What holds of the feed of tables without a fault.
-use Rattle.std.proofs.Common.{◌≡◌, ◌≢◌, ℕ, ◌+◌, ◌-◌, ◌<◌, ◌≤◌, ◌^◌, List, [], ◌∷◌, ◌++◌, length, map, get_or, suc, zero, Bool, true, false, cond, not, ◌&&◌, Option, None, Some, IfSome, refl, sym, ap, subst, ◌∙◌, arith, length-append, ℤ, pos, negsuc}
+use Rattle.std.proofs.Common.{◌≡◌, ℕ, ◌+◌, ◌≤◌, List, [], ◌∷◌, ◌++◌, length, map, get_or, suc, zero, Bool, true, false, cond, not, ◌&&◌, Option, None, Some, refl, sym, subst, ◌∙◌, arith, length-append, ℤ, pos, negsuc}
 use Rattle.std.specs.Option.{option_to_list}
-use Rattle.std.specs.Prelude.{count_by, nat_eq, nat_le, if◌then◌else◌}
-use Rattle.std.specs.List.{All, AllPairs, filter, list_any}
+use Rattle.std.specs.Prelude.{if◌then◌else◌}
+use Rattle.std.specs.List.{All, AllPairs, list_any}
 use Rattle.std.proofs.lemmas.Int.{ints}
 use Rattle.std.proofs.lemmas.List.{length-map}
 use Rattle.std.proofs.lemmas.List.Elements.{All-append, All-cons, All-head, All-map, All-nil, All-tail}
@@ -10,21 +10,19 @@ use Rattle.std.proofs.lemmas.List.Kept.{AllPairs-cons, AllPairs-filter}
 use Rattle.std.proofs.lemmas.List.Sums.{count_by-le-length, length-filter}
 use Rattle.name_index.proofs.SightFacts.{place-below}
 use Rattle.otp_model.proofs.Lengths.{scaled_within, whole_within}
-use Rattle.otp_model.specs.Rows.{AreTables, IsStopRow, IsStopTimeRow, IsTransferLine, IsWithin}
+use Rattle.otp_model.specs.Rows.{AreTables, IsStopTimeRow, IsWithin}
 use Rattle.otp_model.specs.Sights.{has_name, place_of}
-use Rattle.otp_model.specs.declared.feed_fault.FeedFault.{FeedFault}
 use Rattle.otp_model.specs.declared.links.TimeRow.{TimeRow}
 use Rattle.otp_model.specs.declared.tables.StopRow.{StopRow}
 use Rattle.otp_model.specs.declared.tables.StopTimeRow.{StopTimeRow}
 use Rattle.otp_model.specs.declared.tables.Tables.{Tables}
 use Rattle.otp_model.specs.declared.tables.TransferLine.{TransferLine}
-use Rattle.otp_model.specs.declared.tables.TripRow.{TripRow}
 use Rattle.gtfs_links.specs.declared.wrong.Column.TheVariants as column
 use Rattle.gtfs_links.specs.declared.wrong.Wrong.{Wrong}
 use Rattle.gtfs_links.specs.Faults.{duplicate, first_wrong, unknown}
-use Rattle.gtfs_links.specs.Linked.{IsOtherTrip, fault_of, feed_of, is_kept, is_unnamed, kept_trips, number_if, passed_of, stop_at, stop_ids, time_at, time_if, times_from, transfer_at, trip_ids}
+use Rattle.gtfs_links.specs.Linked.{IsOtherTrip, fault_of, feed_of, is_kept, is_unnamed, kept_trips, number_if, stop_at, stop_ids, time_at, time_if, times_from, transfer_at, trip_ids}
 use Rattle.gtfs_links.specs.Resolved.{AreOtherStops, AreOtherTrips, IsNumberOf, IsResolved, IsResolvedStop, IsResolvedTime, IsResolvedTransfer}
-use Rattle.gtfs_links.specs.Rules.{id_of_stop, id_of_trip, is_empty, is_same_call, is_unknown, stop_rule, stop_wrong, time_rule, time_wrong, transfer_rule, transfer_wrong, trip_rule}
+use Rattle.gtfs_links.specs.Rules.{id_of_stop, id_of_trip, is_empty, is_same_call, is_unknown, stop_rule, stop_wrong, time_rule, time_wrong, transfer_rule, transfer_wrong}
 use Rattle.gtfs_links.proofs.CalledFacts.{IsApartFrom, called_twice, calls_apart, none_same}
 use Rattle.gtfs_links.proofs.DistinctFacts.{none_row, none_rest, rows_related}
 use Rattle.gtfs_links.proofs.RuleFacts.{time_none}

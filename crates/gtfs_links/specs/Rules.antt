@@ -1,6 +1,6 @@
 -- What may be wrong with a record beside the others (GTFS Schedule reference): a primary key that an earlier
 -- record has, a foreign id that no record has, a time zone that isn't the one that is wanted.
-use Rattle.std.specs.Prelude.{ℕ, List, [], ◌∷◌, length, map, Option, Some, None, Bool, not, ◌&&◌, ◌||◌, nat_eq, if◌then◌else◌}
+use Rattle.std.specs.Prelude.{ℕ, List, [], ◌∷◌, length, map, Option, Some, None, Bool, not, ◌&&◌, nat_eq, if◌then◌else◌}
 use Rattle.std.specs.List.{list_any}
 use Rattle.std.specs.Ordering.{int_eq}
 use Rattle.std.specs.Str.{bytes_eq}

@@ -1,7 +1,6 @@
-ghost use Rattle.std.specs.Prelude.{◌≡◌, ◌++◌, ◌<◌, ◌^◌, IfOk, OnOk, map, length};
+ghost use Rattle.std.specs.Prelude.{◌≡◌, ◌<◌, ◌^◌, IfOk, map, length};
 ghost use Rattle.std.specs.List.{filter};
-ghost use Rattle.std.specs.Option.{option_to_list};
-ghost use Rattle.otp_model.specs.Sights.{first_sights, has_name};
+ghost use Rattle.otp_model.specs.Sights.{first_sights};
 ghost use Rattle.gtfs_links.specs.Linked.{is_among, trip_at};
 ghost use Rattle.gtfs_links.specs.Rules.{id_of_trip};
 

@@ -1,7 +1,5 @@
-use Rattle.std.proofs.Common.{◌≡◌, ◌<◌, ◌∙◌, List, [], ◌∷◌, length, arith, refl, sym, ℕ}
-use Rattle.otp_model.specs.declared.tables.AgencyRow.{AgencyRow}
-use Rattle.gtfs_links.specs.Faults.{first_wrong}
-use Rattle.gtfs_links.specs.Rules.{agency_fault, agency_rule}
+use Rattle.std.proofs.Common.{◌∙◌, arith, sym}
+use Rattle.gtfs_links.specs.Rules.{agency_rule}
 use Rattle.gtfs_links.proofs.FaultFacts.{ends, goes_on, stops_at}
 use Rattle.gtfs_links.proofs.agencies.check_agencies.Goals as goal
 

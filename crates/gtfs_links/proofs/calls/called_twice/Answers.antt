@@ -1,4 +1,4 @@
-use Rattle.std.proofs.Common.{arith, refl, length, ◌≤◌, ◌≡◌, take, List}
+use Rattle.std.proofs.Common.{arith, refl}
 use Rattle.std.proofs.lemmas.List.{take_all}
 use Rattle.gtfs_links.proofs.CallFacts.{counted_more}
 use Rattle.gtfs_links.proofs.calls.called_twice.Goals as goal

@@ -1,4 +1,4 @@
-use Rattle.std.proofs.Common.{◌≤◌, ◌<◌, length, arith}
+use Rattle.std.proofs.Common.{arith}
 use Rattle.gtfs_links.proofs.FeedFacts.{feed_is, few_kept, few_services}
 use Rattle.gtfs_links.proofs.feed.linked_feed.Goals as goal
 

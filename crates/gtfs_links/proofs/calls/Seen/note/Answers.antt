@@ -1,5 +1,5 @@
 use Rattle.std.proofs.Common.{◌∙◌, sym}
-use Rattle.gtfs_links.proofs.CallFacts.{seen_again, seen_first, seen_none}
+use Rattle.gtfs_links.proofs.CallFacts.{seen_again, seen_first}
 use Rattle.gtfs_links.proofs.calls.Seen.note.Goals as goal
 
 pub returns-then-has : goal.returns-then-has

@@ -1,4 +1,4 @@
-use Rattle.std.proofs.Common.{[], map, refl}
+use Rattle.std.proofs.Common.{[], map}
 use Rattle.otp_model.specs.Sights.{first_sights}
 use Rattle.otp_model.specs.declared.tables.CalendarRow.{CalendarRow}
 use Rattle.gtfs_links.proofs.indexes.Indexes.of.Goals as goal
