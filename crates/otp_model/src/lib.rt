@@ -5,6 +5,7 @@
 mod day;
 mod feed_fault;
 mod journey;
+mod laws;
 mod links;
 mod message;
 mod tables;
@@ -14,6 +15,7 @@ mod value;
 pub use day::parse_day;
 pub use feed_fault::FeedFault;
 pub use journey::{Cursor, Found, Journey, Leg, Page, Place, Request, Value};
+pub use laws::pages_join;
 pub use links::{TimeRow, TransferRow};
 pub use message::{Commit, Entity, Event, Message, StopUpdate, TripUpdate};
 pub use tables::{

@@ -1,0 +1,8 @@
+use Rattle.otp_model.proofs.PageLemmas.{one_list, pages_join}
+use Rattle.otp_model.proofs.laws.pages_join.Goals as goal
+
+pub returns-clause-one : goal.returns-clause-one
+returns-clause-one c = one_list
+
+pub returns-clause-join : goal.returns-clause-join
+returns-clause-join c = pages_join
