@@ -1,5 +1,6 @@
 -- Replies have no floats.
-use Rattle.std.proofs.Common.{◌≡◌, ℕ, ℤ, pos, negsuc, List, [], ◌∷◌, map, Bool, false, ◌||◌, Option, None, Some, refl}
+use Rattle.std.proofs.Common.{◌≡◌, ℕ, ◌+◌, ◌<◌, ℤ, pos, negsuc, List, [], ◌∷◌, ◌++◌, length, get_or, take, map, Bool, false, ◌||◌, Option, None, Some, refl}
+use Rattle.std.proofs.lemmas.List.{map-append, take_more}
 use Rattle.otp_model.specs.declared.journey.Cursor.{Cursor}
 use Rattle.otp_model.specs.declared.journey.Found.{Found}
 use Rattle.otp_model.specs.declared.journey.Leg.{Leg}
@@ -43,3 +44,10 @@ none-next commit (found ∷ other ∷ rest) = none-next commit (other ∷ rest)
 pub none-plan : (feed : Feed) (body : Body) → has_float (plan_data feed body) ≡ false
 none-plan feed (Plan commit cursor at_least page) =
     rw (none-direct page.direct, none-among (journey_data feed) (none-journey feed) page.found, none-next commit page.found) refl
+
+-- one value more of a list of values
+pub one-more : {X V D : Type 0} (view : V → D) (f : X → D) (values more : List V) (value : V) (xs : List X) (i : ℕ) (d : X) → i < length xs
+    → map view values ≡ map f (take i xs) → more ≡ values ++ value ∷ [] → view value ≡ f (get_or xs i d) → map view more ≡ map f (take (i + 1) xs)
+one-more view f values more value xs i d below so_far is last =
+    let item = take_more xs i d below in
+    rw (is, item, map-append view values (value ∷ []), map-append f (take i xs) (get_or xs i d ∷ []), so_far, last) refl
