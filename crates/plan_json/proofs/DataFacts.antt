@@ -1,5 +1,5 @@
 -- Replies have no floats.
-use Rattle.std.proofs.Common.{◌≡◌, ℕ, ◌+◌, ◌<◌, ℤ, pos, negsuc, List, [], ◌∷◌, ◌++◌, length, get_or, take, map, Bool, false, ◌||◌, Option, None, Some, refl}
+use Rattle.std.proofs.Common.{◌≡◌, ℕ, suc, ◌+◌, ◌-◌, ◌<◌, ◌≤◌, arith, ℤ, pos, negsuc, List, [], ◌∷◌, ◌++◌, length, get_or, take, map, Bool, false, ◌||◌, Option, None, Some, refl}
 use Rattle.std.proofs.lemmas.List.{map-append, take_more}
 use Rattle.otp_model.specs.declared.journey.Cursor.{Cursor}
 use Rattle.otp_model.specs.declared.journey.Found.{Found}
@@ -7,12 +7,13 @@ use Rattle.otp_model.specs.declared.journey.Leg.{Leg}
 use Rattle.otp_model.specs.declared.journey.Leg.TheVariants.{Walk, Ride}
 use Rattle.otp_model.specs.declared.journey.Page.{Page}
 use Rattle.otp_model.specs.declared.timetable.Feed.{Feed}
-use Rattle.serde_json.specs.Data.{Data, number, null}
+use Rattle.paging.specs.Text.{cursor_text_of}
+use Rattle.serde_json.specs.Data.{Data, number, null, string}
 use Rattle.serde_json.specs.Find.{is_float, of_integer}
 use Rattle.serde_json.specs.View.{items_of}
 use Rattle.serde_json.specs.Written.{has_float, items_have_float}
 use Rattle.plan_json.specs.Journeys.{journey_data, leg_data}
-use Rattle.plan_json.specs.Plan.{direct_data, journeys_data, next_data, page_data, plan_data}
+use Rattle.plan_json.specs.Plan.{cursor_behind, direct_data, journeys_data, next_data, page_data, plan_data}
 use Rattle.plan_json.specs.declared.body.Body.{Body}
 use Rattle.plan_json.specs.declared.body.Body.TheVariants.{Plan}
 
@@ -51,3 +52,10 @@ pub one-more : {X V D : Type 0} (view : V → D) (f : X → D) (values more : Li
 one-more view f values more value xs i d below so_far is last =
     let item = take_more xs i d below in
     rw (is, item, map-append view values (value ∷ []), map-append f (take i xs) (get_or xs i d ∷ []), so_far, last) refl
+
+pub next-last : (commit : ℕ) (found : List Found) (d : Found) → 1 ≤ length found → next_data commit found ≡ string (cursor_text_of (cursor_behind commit (get_or found (length found - 1) d)))
+next-last commit [] d h = absurd (omega (arith, h))
+next-last commit (x ∷ []) d h = refl
+next-last commit (x ∷ y ∷ rest) d h =
+    let back : length (x ∷ y ∷ rest) - 1 ≡ suc (length (y ∷ rest) - 1) = omega arith in
+    rw back (next-last commit (y ∷ rest) d (omega arith))

@@ -36,15 +36,19 @@ is_moved (Some cursor) commit = not (cursor.commit == commit)
 abbrev pub journeys_data : Feed → List Found → Data
 journeys_data feed found = array (items_of (map (journey_data feed) found))
 
+abbrev pub plan_object : Bool → ℕ → Data → Data → Bool → Bool → Data → Data
+plan_object behind commit direct journeys more moved next =
+    object (member (codes "behind") (boolean behind)
+    (member (codes "commit") (number (unsigned commit))
+    (member (codes "direct") direct
+    (member (codes "journeys") journeys
+    (member (codes "more") (boolean more)
+    (member (codes "moved") (boolean moved)
+    (member (codes "next") next no_members)))))))
+
 abbrev pub page_data : Feed → ℕ → Option Cursor → ℕ → Page → Data
 page_data feed commit cursor at_least page =
-    object (member (codes "behind") (boolean (nat_lt commit at_least))
-    (member (codes "commit") (number (unsigned commit))
-    (member (codes "direct") (direct_data page.direct)
-    (member (codes "journeys") (journeys_data feed page.found)
-    (member (codes "more") (boolean page.more)
-    (member (codes "moved") (boolean (is_moved cursor commit))
-    (member (codes "next") (next_data commit page.found) no_members)))))))
+    plan_object (nat_lt commit at_least) commit (direct_data page.direct) (journeys_data feed page.found) page.more (is_moved cursor commit) (next_data commit page.found)
 
 abbrev pub plan_data : Feed → Body → Data
 plan_data feed (Plan commit cursor at_least page) = page_data feed commit cursor at_least page

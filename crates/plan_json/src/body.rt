@@ -2,7 +2,7 @@ ghost use Rattle.std.specs.Prelude.{◌≡◌, IfOk};
 ghost use Rattle.std.specs.List.{All};
 ghost use Rattle.paging.specs.Text.{FitsText};
 ghost use Rattle.serde_json.specs.View.{view};
-ghost use Rattle.plan_json.specs.Plan.{IsBodyOf, IsFoundOf, body_text, cursor_behind, direct_data, is_moved, journeys_data, next_data, page_data, plan_data};
+ghost use Rattle.plan_json.specs.Plan.{IsBodyOf, IsFoundOf, body_text, cursor_behind, direct_data, is_moved, journeys_data, next_data, page_data, plan_data, plan_object};
 
 use crate::journeys::journey_value;
 use otp_base::{List, Memory};
@@ -70,6 +70,32 @@ fn next_value(alloc: Global, number: u64, found: &[Found]) -> Result<Value, Memo
     Ok(Value::try_from_str(alloc, text.as_str())?)
 }
 
+/// The members of the object.
+#[derive(Drop)]
+struct PlanParts {
+    behind: bool,
+    commit: u64,
+    direct: Value,
+    journeys: Value,
+    more: bool,
+    moved: bool,
+    next: Value,
+}
+
+fn plan_object(alloc: Global, parts: PlanParts) -> Result<Value, AllocError>
+    ensures { IfOk result (λ value. view value ≡ plan_object parts.behind parts.commit (view parts.direct) (view parts.journeys) parts.more parts.moved (view parts.next)) }
+{
+    json!(in alloc; {
+        "behind": parts.behind,
+        "commit": parts.commit,
+        "direct": parts.direct,
+        "journeys": parts.journeys,
+        "more": parts.more,
+        "moved": parts.moved,
+        "next": parts.next
+    })
+}
+
 fn body_value(alloc: Global, feed: &Feed, body: &Body) -> Result<Value, Memory>
     requires { IsBodyOf feed.now body.now }
     ensures { IfOk result (λ value. view value ≡ plan_data feed.now body.now) }
@@ -98,15 +124,18 @@ fn plan_value(
     let moved = is_moved(cursor, number);
     let journeys = journeys_value(alloc, feed, number, page.found.as_slice())?;
     let next = next_value(alloc, number, page.found.as_slice())?;
-    let value = json!(in alloc; {
-        "behind": number < at_least,
-        "commit": number,
-        "direct": direct,
-        "journeys": journeys,
-        "more": page.more,
-        "moved": moved,
-        "next": next
-    })?;
+    let value = plan_object(
+        alloc,
+        PlanParts {
+            behind: number < at_least,
+            commit: number,
+            direct,
+            journeys,
+            more: page.more,
+            moved,
+            next,
+        },
+    )?;
     Ok(value)
 }
 
