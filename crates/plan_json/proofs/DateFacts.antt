@@ -24,7 +24,7 @@ months-are year months left small reached before =
     let passes : ℕ → Bool = λ (n : ℕ). nat_le (days_of_months year n) left in
     prefix_len_is passes (range_with_len 1 12) months 0 (rw length-range_with_len (omega arith))
     (λ k h. let in' : k < 12 = omega arith in
-        rw (get_or-range_with_len 1 12 k 0 in') (le-leb (days_of_months year (1 + k)) left (omega (arith, reached, days_of_months_mono year (1 + k) months (omega arith)))))
+    rw (get_or-range_with_len 1 12 k 0 in') (le-leb (days_of_months year (1 + k)) left (omega (arith, reached, days_of_months_mono year (1 + k) months (omega arith)))))
     (λ _. rw (get_or-range_with_len 1 12 months 0 small) (over (days_of_months year (1 + months)) left (subst (λ (n : ℕ). left < days_of_months year n) (omega arith) before)))
 
 -- the days before a date in its year

@@ -42,7 +42,12 @@ fn direct_value(direct: Option<u32>) -> Value
     }
 }
 
-fn journeys_value(alloc: Global, feed: &Feed, number: u64, found: &[Found]) -> Result<Value, AllocError>
+fn journeys_value(
+    alloc: Global,
+    feed: &Feed,
+    number: u64,
+    found: &[Found],
+) -> Result<Value, AllocError>
     requires { All (IsFoundOf feed.now number) found.now }
     ensures { IfOk result (λ value. view value ≡ journeys_data feed.now found.now) }
 {

@@ -7,3 +7,5 @@ mod journeys;
 
 pub use body::{Body, body_bytes};
 
+#[cfg(test)]
+mod tests;
