@@ -1,19 +1,17 @@
 -- Replies have no floats.
-use Rattle.std.proofs.Common.{◌≡◌, ℕ, suc, ◌+◌, ◌-◌, ◌<◌, ◌≤◌, arith, ℤ, pos, negsuc, List, [], ◌∷◌, ◌++◌, length, get_or, take, map, Bool, false, ◌||◌, Option, None, Some, refl}
+use Rattle.std.proofs.Common.{◌≡◌, ℕ, suc, ◌+◌, ◌-◌, ◌<◌, ◌≤◌, arith, ℤ, pos, negsuc, List, [], ◌∷◌, ◌++◌, length, get_or, take, map, false, Option, None, Some, refl}
 use Rattle.std.proofs.lemmas.List.{map-append, take_more}
-use Rattle.otp_model.specs.declared.journey.Cursor.{Cursor}
 use Rattle.otp_model.specs.declared.journey.Found.{Found}
 use Rattle.otp_model.specs.declared.journey.Leg.{Leg}
 use Rattle.otp_model.specs.declared.journey.Leg.TheVariants.{Walk, Ride}
-use Rattle.otp_model.specs.declared.journey.Page.{Page}
 use Rattle.otp_model.specs.declared.timetable.Feed.{Feed}
 use Rattle.paging.specs.Text.{cursor_text_of}
-use Rattle.serde_json.specs.Data.{Data, number, null, string}
+use Rattle.serde_json.specs.Data.{Data, string}
 use Rattle.serde_json.specs.Find.{is_float, of_integer}
 use Rattle.serde_json.specs.View.{items_of}
 use Rattle.serde_json.specs.Written.{has_float, items_have_float}
 use Rattle.plan_json.specs.Journeys.{journey_data, leg_data}
-use Rattle.plan_json.specs.Plan.{cursor_behind, direct_data, journeys_data, next_data, page_data, plan_data}
+use Rattle.plan_json.specs.Plan.{cursor_behind, direct_data, next_data, plan_data}
 use Rattle.plan_json.specs.declared.body.Body.{Body}
 use Rattle.plan_json.specs.declared.body.Body.TheVariants.{Plan}
 

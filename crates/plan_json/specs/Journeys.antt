@@ -1,7 +1,6 @@
 -- Journeys as JSON (RFC 8259), with the keys of each object in the order of their bytes. Times are in seconds
 -- since 1970-01-01 00:00 UTC.
 use Rattle.std.specs.Prelude.{ℕ, ◌<◌, ℤ, List, [], map, length, slice_get, codes}
-use Rattle.std.specs.List.{All}
 use Rattle.std.specs.Option.{option_map_or}
 use Rattle.otp_model.specs.Ranges.{IsServiceDay}
 use Rattle.otp_model.specs.declared.journey.Found.{Found}

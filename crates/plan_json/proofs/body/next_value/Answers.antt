@@ -1,4 +1,4 @@
-use Rattle.std.proofs.Common.{◌≡◌, ℕ, List, ◌-◌, ◌<◌, length, ◌∙◌, sym, subst, ap, arith}
+use Rattle.std.proofs.Common.{ℕ, List, ◌-◌, ◌<◌, length, ◌∙◌, sym, subst, ap, arith}
 use Rattle.std.proofs.lemmas.List.Elements.{All-get_or}
 use Rattle.otp_model.specs.declared.journey.Found.{Found}
 use Rattle.paging.specs.Text.{FitsText, cursor_text_of}
