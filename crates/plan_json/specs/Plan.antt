@@ -1,0 +1,66 @@
+-- The reply to a plan request (its form is this project's own), as JSON with the keys in the order of their bytes.
+use Rattle.std.specs.Prelude.{ℕ, nat_lt, List, [], ◌∷◌, map, Bool, false, not, ◌==◌, Option, None, Some, codes}
+use Rattle.std.specs.List.{All}
+use Rattle.otp_model.specs.declared.journey.Cursor.{Cursor}
+use Rattle.otp_model.specs.declared.journey.Found.{Found}
+use Rattle.otp_model.specs.declared.journey.Page.{Page}
+use Rattle.otp_model.specs.declared.timetable.Feed.{Feed}
+use Rattle.paging.specs.Text.{FitsText, cursor_text_of}
+use Rattle.serde_json.specs.Data.{Data, null, boolean, number, string, array, object, unsigned, member, no_members}
+use Rattle.serde_json.specs.View.{items_of}
+use Rattle.serde_json.specs.Written.{compact_text}
+use Rattle.plan_json.specs.Journeys.{IsLegOf, journey_data}
+use Rattle.plan_json.specs.declared.body.Body.{Body}
+use Rattle.plan_json.specs.declared.body.Body.TheVariants.{Plan}
+
+-- the cursor behind a journey of a reply of so many commits
+abbrev pub cursor_behind : ℕ → Found → Cursor
+cursor_behind commit found = record { commit = commit; value = found.value }
+
+-- the text of the cursor behind the last journey, or null where there is none
+abbrev pub next_data : ℕ → List Found → Data
+next_data commit [] = null
+next_data commit (found ∷ []) = string (cursor_text_of (cursor_behind commit found))
+next_data commit (found ∷ other ∷ rest) = next_data commit (other ∷ rest)
+
+-- the seconds of the direct walk, or null
+abbrev pub direct_data : Option ℕ → Data
+direct_data None = null
+direct_data (Some seconds) = number (unsigned seconds)
+
+-- the request's cursor names another number of commits than the reply
+abbrev pub is_moved : Option Cursor → ℕ → Bool
+is_moved None commit = false
+is_moved (Some cursor) commit = not (cursor.commit == commit)
+
+abbrev pub journeys_data : Feed → List Found → Data
+journeys_data feed found = array (items_of (map (journey_data feed) found))
+
+abbrev pub plan_object : Bool → ℕ → Data → Data → Bool → Bool → Data → Data
+plan_object behind commit direct journeys more moved next =
+    object (member (codes "behind") (boolean behind)
+    (member (codes "commit") (number (unsigned commit))
+    (member (codes "direct") direct
+    (member (codes "journeys") journeys
+    (member (codes "more") (boolean more)
+    (member (codes "moved") (boolean moved)
+    (member (codes "next") next no_members)))))))
+
+abbrev pub page_data : Feed → ℕ → Option Cursor → ℕ → Page → Data
+page_data feed commit cursor at_least page =
+    plan_object (nat_lt commit at_least) commit (direct_data page.direct) (journeys_data feed page.found) page.more (is_moved cursor commit) (next_data commit page.found)
+
+abbrev pub plan_data : Feed → Body → Data
+plan_data feed (Plan commit cursor at_least page) = page_data feed commit cursor at_least page
+
+-- the bytes of a reply's body
+abbrev pub body_text : Feed → Body → List ℕ
+body_text feed body = compact_text (plan_data feed body)
+
+-- a journey whose rides name the feed's, and whose value and number of commits fit the text of a cursor
+pub record IsFoundOf (feed : Feed) (commit : ℕ) (found : Found) : Type 0 where
+  pub legs : All (IsLegOf feed) found.journey.legs
+  pub fits : FitsText (cursor_behind commit found)
+
+abbrev pub IsBodyOf : Feed → Body → Type 0
+IsBodyOf feed (Plan commit cursor at_least page) = All (IsFoundOf feed commit) page.found

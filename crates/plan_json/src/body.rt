@@ -1,0 +1,157 @@
+ghost use Rattle.std.specs.Prelude.{◌≡◌, IfOk};
+ghost use Rattle.std.specs.List.{All};
+ghost use Rattle.paging.specs.Text.{FitsText};
+ghost use Rattle.serde_json.specs.View.{view};
+ghost use Rattle.plan_json.specs.Plan.{IsBodyOf, IsFoundOf, body_text, cursor_behind, direct_data, is_moved, journeys_data, next_data, page_data, plan_data, plan_object};
+
+use crate::journeys::journey_value;
+use otp_base::{List, Memory};
+use otp_model::{Cursor, Feed, Found, Page};
+use paging::cursor_text;
+use serde_json::{Value, json};
+use std::alloc::{AllocError, Global};
+
+/// What a reply says.
+#[derive(Debug, Drop)]
+pub enum Body {
+    /// A page of journeys over so many commits, of a request with this cursor that asked for at least so many.
+    Plan {
+        number: u64,
+        cursor: Option<Cursor>,
+        at_least: u64,
+        page: Page,
+    },
+}
+
+/// Whether the cursor names another number of commits.
+fn is_moved(cursor: &Option<Cursor>, number: u64) -> bool
+    ensures { result ≡ is_moved cursor.now number }
+{
+    match cursor {
+        Some(cursor) => cursor.commit != number,
+        None => false,
+    }
+}
+
+fn direct_value(direct: Option<u32>) -> Value
+    ensures { view result ≡ direct_data direct }
+{
+    match direct {
+        Some(seconds) => Value::from(seconds),
+        None => Value::Null,
+    }
+}
+
+fn journeys_value(
+    alloc: Global,
+    feed: &Feed,
+    number: u64,
+    found: &[Found],
+) -> Result<Value, AllocError>
+    requires { All (IsFoundOf feed.now number) found.now }
+    ensures { IfOk result (λ value. view value ≡ journeys_data feed.now found.now) }
+{
+    let mut values = Vec::new(alloc);
+    for journey in found {
+        let value = journey_value(alloc, feed, journey)?;
+        values.push(value)?;
+    }
+    Ok(Value::Array(values))
+}
+
+/// The text of the cursor behind the last journey.
+fn next_value(alloc: Global, number: u64, found: &[Found]) -> Result<Value, Memory>
+    requires { All (λ found. FitsText (cursor_behind number found)) found.now }
+    ensures { IfOk result (λ value. view value ≡ next_data number found.now) }
+{
+    let [.., last] = found else {
+        return Ok(Value::Null);
+    };
+    let cursor = Cursor {
+        commit: number,
+        value: last.value,
+    };
+    let text = cursor_text(alloc, &cursor)?;
+    Ok(Value::try_from_str(alloc, text.as_str())?)
+}
+
+/// The members of the object.
+#[derive(Drop)]
+struct PlanParts {
+    behind: bool,
+    commit: u64,
+    direct: Value,
+    journeys: Value,
+    more: bool,
+    moved: bool,
+    next: Value,
+}
+
+fn plan_object(alloc: Global, parts: PlanParts) -> Result<Value, AllocError>
+    ensures { IfOk result (λ value. view value ≡ plan_object parts.behind parts.commit (view parts.direct) (view parts.journeys) parts.more parts.moved (view parts.next)) }
+{
+    json!(in alloc; {
+        "behind": parts.behind,
+        "commit": parts.commit,
+        "direct": parts.direct,
+        "journeys": parts.journeys,
+        "more": parts.more,
+        "moved": parts.moved,
+        "next": parts.next
+    })
+}
+
+fn body_value(alloc: Global, feed: &Feed, body: &Body) -> Result<Value, Memory>
+    requires { IsBodyOf feed.now body.now }
+    ensures { IfOk result (λ value. view value ≡ plan_data feed.now body.now) }
+{
+    let Body::Plan {
+        number,
+        cursor,
+        at_least,
+        page,
+    } = body;
+    plan_value(alloc, feed, *number, cursor, *at_least, page)
+}
+
+fn plan_value(
+    alloc: Global,
+    feed: &Feed,
+    number: u64,
+    cursor: &Option<Cursor>,
+    at_least: u64,
+    page: &Page,
+) -> Result<Value, Memory>
+    requires { All (IsFoundOf feed.now number) page.now.found }
+    ensures { IfOk result (λ value. view value ≡ page_data feed.now number cursor.now at_least page.now) }
+{
+    let direct = direct_value(page.direct);
+    let moved = is_moved(cursor, number);
+    let journeys = journeys_value(alloc, feed, number, page.found.as_slice())?;
+    let next = next_value(alloc, number, page.found.as_slice())?;
+    let value = plan_object(
+        alloc,
+        PlanParts {
+            behind: number < at_least,
+            commit: number,
+            direct,
+            journeys,
+            more: page.more,
+            moved,
+            next,
+        },
+    )?;
+    Ok(value)
+}
+
+/// The bytes of a reply's body: compact JSON with the keys of each object in the order of their bytes. Each
+/// ride of the page names stops and a trip of the feed and a day of the years 1970 to 2999, and each value of
+/// the page, with the number of commits, fits the text of a cursor.
+pub fn body_bytes(alloc: Global, feed: &Feed, body: &Body) -> Result<List<u8>, Memory>
+    requires { IsBodyOf feed.now body.now }
+    ensures { IfOk result (λ bytes. bytes ≡ body_text feed.now body.now) }
+{
+    let value = body_value(alloc, feed, body)?;
+    let bytes = value.to_vec(alloc)?;
+    Ok(List::from_vec(bytes))
+}
