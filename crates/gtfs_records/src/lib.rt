@@ -15,6 +15,7 @@ mod line;
 mod records;
 
 pub use fault::{Cause, Fault, TableError};
+pub use fields::degrees;
 pub use header::column_of;
 pub use line::Line;
 pub use records::Records;
