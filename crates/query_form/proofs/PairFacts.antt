@@ -1,5 +1,5 @@
 -- The values under a name.
-use Rattle.std.proofs.Common.{◌≡◌, ℕ, Bool, true, false, List, [], ◌∷◌, Some, Ok, Err, inl, inr, refl, sym}
+use Rattle.std.proofs.Common.{◌≡◌, ℕ, true, false, List, [], ◌∷◌, Some, Ok, Err, inl, inr, refl}
 use Rattle.std.specs.List.{list_any}
 use Rattle.std.proofs.lemmas.Bool.{cases_Bool}
 use Rattle.query_form.specs.declared.pairs.Pair.{Pair}
@@ -11,8 +11,8 @@ pub alone : (value name : List ℕ) (others : List Pair) → list_any (is_named 
 alone value name [] h = refl
 alone value name (pair ∷ others) h =
     elim (cases_Bool (is_named name pair)) [
-      inl e ↦ cc (rw e at h)
-    | inr e ↦ rw e (alone value name others (rw e at h))
+      | inl e ↦ cc (rw e at h)
+      | inr e ↦ rw e (alone value name others (rw e at h))
     ]
 
 -- a value beside another
@@ -20,6 +20,6 @@ pub twice : (value name : List ℕ) (others : List Pair) → list_any (is_named 
 twice value name [] h = cc h
 twice value name (pair ∷ others) h =
     elim (cases_Bool (is_named name pair)) [
-      inl e ↦ rw e refl
-    | inr e ↦ rw e (twice value name others (rw e at h))
+      | inl e ↦ rw e refl
+      | inr e ↦ rw e (twice value name others (rw e at h))
     ]

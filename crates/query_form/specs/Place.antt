@@ -1,6 +1,6 @@
 -- Where a journey begins or ends, as a parameter spells it: `stop:ID`, or `at:LAT,LON` in degrees as the fields
 -- stop_lat and stop_lon of `stops.txt` write them (GTFS Schedule reference, "Latitude" and "Longitude").
-use Rattle.std.specs.Prelude.{ℕ, ◌≤◌, ◌^◌, List, Option, Some, None, Result, Ok, Err, Bool, nat_le, ◌&&◌, ℤ, codes, if◌then◌else◌}
+use Rattle.std.specs.Prelude.{ℕ, List, Option, Some, None, Result, Ok, Err, Bool, nat_le, ◌&&◌, ℤ, codes, if◌then◌else◌}
 use Rattle.std.specs.List.{position}
 use Rattle.std.specs.Str.{bytes_eq}
 use Rattle.gtfs_records.specs.Fields.{degrees_of}

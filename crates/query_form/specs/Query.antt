@@ -1,5 +1,5 @@
 -- What the query of a plan asks for. Names, ranges and defaults of the parameters are this project's own.
-use Rattle.std.specs.Prelude.{◌≡◌, ℕ, ◌≤◌, ◌<◌, ◌^◌, List, Option, Some, None, Result, Ok, Err, codes, ℤ, pos, ◌≤ℤ◌}
+use Rattle.std.specs.Prelude.{◌≡◌, ℕ, ◌≤◌, ◌^◌, List, Option, Some, None, Result, Ok, Err, codes, pos, ◌≤ℤ◌}
 use Rattle.otp_base.specs.Number.{number_in}
 use Rattle.otp_model.specs.declared.timetable.Stop.{Stop}
 use Rattle.otp_model.specs.declared.journey.Cursor.{Cursor}

@@ -10,3 +10,6 @@ mod query;
 
 pub use fault::{QueryFault, TargetFault};
 pub use query::read_query;
+
+#[cfg(test)]
+mod tests;
