@@ -6,10 +6,11 @@ use Rattle.otp_model.specs.declared.timetable.Edges.{Edges}
 use Rattle.otp_model.specs.declared.journey.Request.{Request}
 use Rattle.otp_model.specs.declared.journey.Cursor.{Cursor}
 use Rattle.otp_model.specs.declared.journey.Value.{Value}
+use Rattle.otp_model.specs.declared.journey.Found.{Found}
 use Rattle.otp_model.specs.declared.journey.Leg.{Leg}
 use Rattle.otp_model.specs.declared.journey.Leg.TheVariants.{Walk, Ride}
 use Rattle.otp_model.specs.Journeys.{Follows, IsJourney}
-use Rattle.otp_model.specs.Whole.{IsOffered, IsBest}
+use Rattle.otp_model.specs.Whole.{IsOffered, IsBest, IsWhole}
 use Rattle.otp_model.specs.Laws.{from_cursor}
 
 module _ (runs : List Run) (edges : Edges) (r : Request) (cursor : Option Cursor) where
@@ -67,3 +68,12 @@ module _ (runs : List Run) (edges : Edges) (r : Request) (cursor : Option Cursor
 
   pub best_to : (v : Value) → IsBest runs edges (from_cursor r cursor) v → IsBest runs edges r v
   best_to v h = record { offered = offered_to v h.offered; undominated = λ w k d. h.undominated w (offered_from w k) d }
+
+  -- a whole list is one whatever the cursor is
+  pub whole_from : (list : List Found) → IsWhole runs edges r list → IsWhole runs edges (from_cursor r cursor) list
+  whole_from list h = record {
+    rises = h.rises;
+    journeys = λ k d l. let was = h.journeys k d l in (journey_from _ was.0, record { departure = was.1.departure; arrival = was.1.arrival; rides = was.1.rides; cost = was.1.cost });
+    best = λ k d l. best_from _ (h.best k d l);
+    all = λ v b. h.all v (best_to v b);
+  }

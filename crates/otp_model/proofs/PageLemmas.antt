@@ -1,8 +1,8 @@
 -- Pages that lead on to one another.
-use Rattle.std.proofs.Common.{◌≡◌, ℕ, ◌<◌, ◌≤◌, Bool, true, false, List, [], ◌∷◌, ◌++◌, map, length, take, drop, Option, Some, None, IsTrue, inl, inr, refl, sym, ◌∙◌, ap, subst, arith, append_assoc}
+use Rattle.std.proofs.Common.{◌≡◌, ℕ, ◌<◌, ◌≤◌, Bool, true, false, List, [], ◌∷◌, ◌++◌, map, length, take, drop, Option, Some, None, IsTrue, inl, inr, refl, sym, ◌∙◌, ap, subst, arith, append_assoc, zero, suc}
 use Rattle.std.specs.List.{filter, flat_map}
 use Rattle.std.proofs.lemmas.Bool.{cases_Bool, cases_lt}
-use Rattle.std.proofs.lemmas.List.{append-nil, length-map, take-append-drop, take-map, take_all, length-take-le}
+use Rattle.std.proofs.lemmas.List.{append-nil, length-append, length-map, take-append-drop, take-map, take_all, length-take-le}
 use Rattle.otp_model.specs.declared.timetable.Run.{Run}
 use Rattle.otp_model.specs.declared.timetable.Edges.{Edges}
 use Rattle.otp_model.specs.declared.journey.Request.{Request}
@@ -10,10 +10,10 @@ use Rattle.otp_model.specs.declared.journey.Cursor.{Cursor}
 use Rattle.otp_model.specs.declared.journey.Value.{Value}
 use Rattle.otp_model.specs.declared.journey.Found.{Found}
 use Rattle.otp_model.specs.Whole.{IsBest, IsWhole, IsPage, is_after, value_cmp, left_of}
-use Rattle.otp_model.specs.Laws.{ArePages, HasOneList, PagesJoin, cursor_behind, from_cursor, values_of}
+use Rattle.otp_model.specs.Laws.{ArePages, HasOneList, HasPages, PagesJoin, cursor_behind, from_cursor, values_of}
 use Rattle.otp_model.proofs.Values.{value_cmp_total}
 use Rattle.otp_model.proofs.RisingLemmas.{Rises, above_is_end, above_middle, in_from_any, of_all, rises, same_lists}
-use Rattle.otp_model.proofs.CursorLemmas.{best_from, best_to}
+use Rattle.otp_model.proofs.CursorLemmas.{best_from, best_to, whole_from}
 
 -- two whole lists have the same values
 pub one_list : HasOneList
@@ -140,3 +140,63 @@ joined_from runs edges r commit whole cursor (page ∷ next ∷ pages) some h k 
 pub pages_join : PagesJoin
 pages_join runs edges r commit whole pages some h k =
     joined_from runs edges r commit whole None pages some h k ∙ all_of (values_of whole)
+
+-- the first page behind a cursor
+abbrev first_of : Request → Option Cursor → List Found → List Found
+first_of r cursor whole = take r.page (left_of (from_cursor r cursor) whole)
+
+first_is : (runs : List Run) (edges : Edges) (r : Request) (whole : List Found) → IsWhole runs edges r whole → (cursor : Option Cursor) → r.page < length (left_of (from_cursor r cursor) whole)
+    → IsPage runs edges (from_cursor r cursor) (first_of r cursor whole) true
+first_is runs edges r whole h cursor more =
+    record { whole = whole; is_whole = whole_from runs edges r cursor whole h; list_is = refl; more_is = (λ t. more, λ l. refl) }
+
+last_page : (runs : List Run) (edges : Edges) (r : Request) (commit : ℕ) (whole : List Found) → IsWhole runs edges r whole → (cursor : Option Cursor)
+    → length (left_of (from_cursor r cursor) whole) ≤ r.page → (pages : List (List Found)) × ArePages runs edges r commit cursor pages
+last_page runs edges r commit whole h cursor few = (
+  first_of r cursor whole ∷ [],
+  record {
+    whole = whole;
+    is_whole = whole_from runs edges r cursor whole h;
+    list_is = refl;
+    more_is = (λ t. absurd (false_is t), λ l. absurd (omega (arith, l, few)));
+  },
+)
+
+next_page : (runs : List Run) (edges : Edges) (r : Request) (commit : ℕ) (whole : List Found) → IsWhole runs edges r whole → (cursor : Option Cursor)
+    → r.page < length (left_of (from_cursor r cursor) whole)
+    → (pages : List (List Found)) × ArePages runs edges r commit (cursor_behind commit (first_of r cursor whole)) pages
+    → (pages : List (List Found)) × ArePages runs edges r commit cursor pages
+next_page runs edges r commit whole h cursor more ([], are) = absurd are
+next_page runs edges r commit whole h cursor more (next ∷ pages, are) =
+    (first_of r cursor whole ∷ next ∷ pages, (first_is runs edges r whole h cursor more, are))
+
+-- fewer values are left behind a page than before it
+fewer_left : (runs : List Run) (edges : Edges) (r : Request) (commit : ℕ) (whole : List Found) → 1 ≤ r.page → IsWhole runs edges r whole → (cursor : Option Cursor)
+    → r.page < length (left_of (from_cursor r cursor) whole)
+    → length (left_in (cursor_behind commit (first_of r cursor whole)) whole) < length (left_in cursor whole)
+fewer_left runs edges r commit whole some h cursor more =
+    let size = left_lengths runs edges r cursor whole whole h (whole_from runs edges r cursor whole h) in
+    let values = page_values runs edges r cursor whole (first_of r cursor whole) true h (first_is runs edges r whole h cursor more) in
+    let left : r.page < length (left_in cursor whole) = omega (arith, size, more) in
+    let parts = page_and_rest r.page commit cursor (first_of r cursor whole) (values_of whole) some (rises value_cmp (λ found. found.value) whole h.rises) values left in
+    let sum = sym (length-append (values_of (first_of r cursor whole)) (left_in (cursor_behind commit (first_of r cursor whole)) whole)) ∙ ap length parts in
+    let front : length (values_of (first_of r cursor whole)) ≡ r.page = ap length values ∙ length-take-le r.page (left_in cursor whole) (omega (arith, left)) in
+    omega (arith, sum, front, some)
+
+-- the pages from a cursor on, where at most so many values are left above it
+pages_from : (runs : List Run) (edges : Edges) (r : Request) (commit : ℕ) (whole : List Found) → 1 ≤ r.page → IsWhole runs edges r whole
+    → (n : ℕ) (cursor : Option Cursor) → length (left_in cursor whole) ≤ n → (pages : List (List Found)) × ArePages runs edges r commit cursor pages
+pages_from runs edges r commit whole some h zero cursor left =
+    let size = left_lengths runs edges r cursor whole whole h (whole_from runs edges r cursor whole h) in
+    last_page runs edges r commit whole h cursor (omega (arith, left, size))
+pages_from runs edges r commit whole some h (suc n) cursor left =
+    elim (cases_lt r.page (length (left_of (from_cursor r cursor) whole))) [
+      | inl more ↦
+          next_page runs edges r commit whole h cursor more
+          (pages_from runs edges r commit whole some h n (cursor_behind commit (first_of r cursor whole)) (omega (arith, left, fewer_left runs edges r commit whole some h cursor more)))
+      | inr few ↦ last_page runs edges r commit whole h cursor few
+    ]
+
+pub has_pages : HasPages
+has_pages runs edges r commit whole some h =
+    pages_from runs edges r commit whole some h (length (left_in None whole)) None (omega arith)

@@ -42,3 +42,9 @@ abbrev pub PagesJoin : Type 0
 PagesJoin =
     (runs : List Run) (edges : Edges) (r : Request) (commit : ℕ) (whole : List Found) (pages : List (List Found)) → 1 ≤ r.page
     → IsWhole runs edges r whole → ArePages runs edges r commit None pages → flat_map values_of pages ≡ values_of whole
+
+-- and there are such pages: who follows the cursors comes to an end
+abbrev pub HasPages : Type 0
+HasPages =
+    (runs : List Run) (edges : Edges) (r : Request) (commit : ℕ) (whole : List Found) → 1 ≤ r.page → IsWhole runs edges r whole
+    → (pages : List (List Found)) × ArePages runs edges r commit None pages

@@ -12,7 +12,7 @@ use Rattle.std.proofs.lemmas.List.Sums.{passes_at_first, position_or_len_is, spl
 use Rattle.std.proofs.lemmas.Slice.Eq.{bytes_eq-Decides}
 use Rattle.std.proofs.lemmas.Str.Parse.{digit_at}
 use Rattle.otp_model.specs.declared.journey.Cursor.{Cursor}
-use Rattle.paging.specs.Text.{◌>>=◌, FitsText, FitsTime, IsCursorOf, cursor_of, cursor_text_of, cut, is_hyphen, number_then, numbers_in, numbers_text}
+use Rattle.paging.specs.Text.{◌>>=◌, FitsText, FitsTime, IsCursorOf, cursor_of, cursor_text_of, cut, is_byte, number_then, numbers_in, numbers_text}
 use Rattle.paging.proofs.NumberFacts.{plain_from, plain_is}
 
 -- a step that gave something had something to go on
@@ -33,34 +33,34 @@ step x f a r e h = ap (λ z. z >>= f) e ∙ h
 record IsCut (text front back : List ℕ) : Type 0 where
   is : text ≡ front ++ 45 ∷ back
 
-cut_if : (text : List ℕ) (test : Bool) (parts : List ℕ × List ℕ) → test ≡ nat_lt (position_or_len is_hyphen text) (length text)
-    → (if test then Some (before_first is_hyphen text, after_first is_hyphen text) else None) ≡ Some parts → IsCut text parts.0 parts.1
+cut_if : (text : List ℕ) (test : Bool) (parts : List ℕ × List ℕ) → test ≡ nat_lt (position_or_len (is_byte 45) text) (length text)
+    → (if test then Some (before_first (is_byte 45) text, after_first (is_byte 45) text) else None) ≡ Some parts → IsCut text parts.0 parts.1
 cut_if text false parts e h = cc h
 cut_if text true parts e h =
     let within = ltb-true _ _ (sym e) in
-    let hyphen : get_or text (position_or_len is_hyphen text) 0 ≡ 45 = eqb-true _ 45 (passes_at_first is_hyphen text 0 within) in
-    let is = split_at_first is_hyphen text 0 within ∙ ap (λ z. before_first is_hyphen text ++ z ∷ after_first is_hyphen text) hyphen in
-    let same : (before_first is_hyphen text, after_first is_hyphen text) ≡ parts = cc h in
+    let hyphen : get_or text (position_or_len (is_byte 45) text) 0 ≡ 45 = eqb-true _ 45 (passes_at_first (is_byte 45) text 0 within) in
+    let is = split_at_first (is_byte 45) text 0 within ∙ ap (λ z. before_first (is_byte 45) text ++ z ∷ after_first (is_byte 45) text) hyphen in
+    let same : (before_first (is_byte 45) text, after_first (is_byte 45) text) ≡ parts = cc h in
     record { is = subst (λ p. text ≡ p.0 ++ 45 ∷ p.1) same is }
 
-cut_is : (text : List ℕ) (parts : List ℕ × List ℕ) → cut text ≡ Some parts → IsCut text parts.0 parts.1
+cut_is : (text : List ℕ) (parts : List ℕ × List ℕ) → cut 45 text ≡ Some parts → IsCut text parts.0 parts.1
 cut_is text parts h = cut_if text _ parts refl h
 
-cut_from : (front back : List ℕ) → ((k : ℕ) → k < length front → is_hyphen (get_or front k 0) ≡ false) → cut (front ++ 45 ∷ back) ≡ Some (front, back)
+cut_from : (front back : List ℕ) → ((k : ℕ) → k < length front → is_byte 45 (get_or front k 0) ≡ false) → cut 45 (front ++ 45 ∷ back) ≡ Some (front, back)
 cut_from front back none =
     let text = front ++ 45 ∷ back in
     let size : length text ≡ length front + suc (length back) = length-append front (45 ∷ back) in
-    let place : position_or_len is_hyphen text ≡ length front =
-    position_or_len_is is_hyphen text (length front) 0 (omega (arith, size))
-    (λ k l. ap is_hyphen (get_or_append_left front (45 ∷ back) 0 k l) ∙ none k l)
-    (λ l. ap is_hyphen (get_or_at front 45 back 0 (length front) refl)) in
+    let place : position_or_len (is_byte 45) text ≡ length front =
+    position_or_len_is (is_byte 45) text (length front) 0 (omega (arith, size))
+    (λ k l. ap (is_byte 45) (get_or_append_left front (45 ∷ back) 0 k l) ∙ none k l)
+    (λ l. ap (is_byte 45) (get_or_at front 45 back 0 (length front) refl)) in
     let test : nat_lt (length front) (length text) ≡ true = lt-ltb _ _ (omega (arith, size)) in
     let behind : drop (length front + 1) text ≡ back =
     ap (drop (length front + 1)) (sym (append_assoc front (45 ∷ []) back)) ∙ drop_at (front ++ 45 ∷ []) back (length front + 1) (length_push front 45) in
     let before : take (length front) text ≡ front = take_at front (45 ∷ back) (length front) refl in
     rw (place, test, behind, before) refl
 
-digits_no_hyphen : (ds : List ℕ) → AllDigits 10 ds → (k : ℕ) → k < length ds → is_hyphen (get_or ds k 0) ≡ false
+digits_no_hyphen : (ds : List ℕ) → AllDigits 10 ds → (k : ℕ) → k < length ds → is_byte 45 (get_or ds k 0) ≡ false
 digits_no_hyphen ds d k l = let h = digit_at ds k d l in ne_eqb (get_or ds k 0) 45 (λ e. omega (arith, h.0, e))
 
 -- a number and a hyphen
@@ -179,7 +179,7 @@ text_is text c h =
     let parts = cut_is text one.from one.was in
     subst (λ z. IsText z c) (sym parts.is) (version_if one.from.0 one.from.1 c _ refl one.gives)
 
-version_no_hyphen : (k : ℕ) → k < 2 → is_hyphen (get_or (codes "v1") k 0) ≡ false
+version_no_hyphen : (k : ℕ) → k < 2 → is_byte 45 (get_or (codes "v1") k 0) ≡ false
 version_no_hyphen zero l = refl
 version_no_hyphen (suc zero) l = refl
 version_no_hyphen (suc (suc k)) l = absurd (omega arith)

@@ -33,12 +33,16 @@ abbrev pub ◌>>=◌ : {A B : Type 0} → Option A → (A → Option B) → Opti
 (Some x) >>= f = f x
 None >>= f = None
 
-abbrev pub is_hyphen : ℕ → Bool
-is_hyphen b = b == 45
+abbrev pub is_byte : ℕ → ℕ → Bool
+is_byte c b = b == c
 
--- a text up to its first hyphen, and what stands behind it
-abbrev pub cut : List ℕ → Option (List ℕ × List ℕ)
-cut text = if nat_lt (position_or_len is_hyphen text) (length text) then Some (before_first is_hyphen text, after_first is_hyphen text) else None
+-- a text up to the first byte c, and what stands behind it
+abbrev pub cut : ℕ → List ℕ → Option (List ℕ × List ℕ)
+cut c text = if nat_lt (position_or_len (is_byte c) text) (length text) then Some (before_first (is_byte c) text, after_first (is_byte c) text) else None
+
+-- `b'-'`
+abbrev pub hyphen : ℕ
+hyphen = 45
 
 -- whether a zero stands before another byte
 abbrev pub has_leading_zero : List ℕ → Bool
@@ -54,7 +58,7 @@ plain_number_of most text =
 -- such a number before the first hyphen, and what stands behind it
 unfoldable pub number_then : ℕ → List ℕ → Option (ℕ × List ℕ)
 number_then most text = do
-  parts ← cut text
+  parts ← cut hyphen text
   number ← plain_number_of most parts.0
   Some (number, parts.1)
 
@@ -70,7 +74,7 @@ numbers_in text = do
 -- the cursor that a text spells, if it spells one
 unfoldable pub cursor_of : List ℕ → Option Cursor
 cursor_of text = do
-  parts ← cut text
+  parts ← cut hyphen text
   if bytes_eq parts.0 (codes "v1") then numbers_in parts.1 else None
 
 -- an answer for a text: its cursor, or none exactly where no cursor has the text

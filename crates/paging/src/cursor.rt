@@ -126,7 +126,7 @@ fn number_then(most: usize, text: &str) -> Option<(u64, &str)>
 
 /// The text up to the first hyphen, and what stands behind it.
 fn cut(text: &str) -> Option<(&str, &str)>
-    ensures { option_map (λ p. (p.0.now, p.1.now)) result ≡ cut text.now }
+    ensures { option_map (λ p. (p.0.now, p.1.now)) result ≡ cut 45 text.now }
 {
     text.split_once('-')
 }

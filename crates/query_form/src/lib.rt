@@ -1,0 +1,15 @@
+//! What the query of a plan asks for: a `Request`, or its first fault. The parameters are looked at in a
+//! fixed order, each with its range and its default; unknown ones are passed over.
+#![tactic(auto)]
+
+mod fault;
+mod pairs;
+mod parameter;
+mod place;
+mod query;
+
+pub use fault::{QueryFault, TargetFault};
+pub use query::read_query;
+
+#[cfg(test)]
+mod tests;
