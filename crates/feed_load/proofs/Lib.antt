@@ -1,4 +1,5 @@
 pub mod AmongFacts
+pub mod CountFacts
 pub mod EachFacts
 pub mod GapFacts
 pub mod GroupFacts
