@@ -137,13 +137,13 @@ module _ (stops : ℕ) (trips : List Trip) (calls : List (List Call)) (sound : A
   day_pairs : (day : ServiceDay) → IsSoundDay day → AllPairs AreOther (runs_of_day trips calls day)
   day_pairs day is =
       pairs_gathered AreOther (run_at day trips calls) (range_with_len 0 (length trips)) (λ k d less. alone day (get_or (range_with_len 0 (length trips)) k d)) (λ i j d less within.
-          let few : j < length trips = omega (arith, length-range_with_len 0 (length trips), within) in
-          let one : get_or (range_with_len 0 (length trips)) i d ≡ i = get_or-range_with_len 0 (length trips) i d (omega (arith, less, few)) ∙ zero-add i in
-          let other : get_or (range_with_len 0 (length trips)) j d ≡ j = get_or-range_with_len 0 (length trips) j d few ∙ zero-add j in
-          rw (one, other) (λ k e m n f o.
-              let a = (at_place day i is (omega (arith, less, few)) k e m).trip in
-              let b = (at_place day j is few n f o).trip in
-              inl (λ same. absurd (omega (arith, a, b, same, less)))))
+      let few : j < length trips = omega (arith, length-range_with_len 0 (length trips), within) in
+      let one : get_or (range_with_len 0 (length trips)) i d ≡ i = get_or-range_with_len 0 (length trips) i d (omega (arith, less, few)) ∙ zero-add i in
+      let other : get_or (range_with_len 0 (length trips)) j d ≡ j = get_or-range_with_len 0 (length trips) j d few ∙ zero-add j in
+      rw (one, other) (λ k e m n f o.
+      let a = (at_place day i is (omega (arith, less, few)) k e m).trip in
+      let b = (at_place day j is few n f o).trip in
+      inl (λ same. absurd (omega (arith, a, b, same, less)))))
 
   module _ (days : List ServiceDay) (are : All IsSoundDay days) where
     -- each run is one of some day
@@ -160,9 +160,9 @@ module _ (stops : ℕ) (trips : List Trip) (calls : List (List Call)) (sound : A
     pub runs_other : AllPairs (λ (a : ServiceDay) (b : ServiceDay). a.day ≢ b.day) days → AllPairs AreOther (runs_of trips calls days)
     runs_other differ =
         pairs_gathered AreOther (runs_of_day trips calls) days (λ k d less. day_pairs (get_or days k d) (are k d less)) (λ i j d less within k e m n f o.
-            let a = (day_runs (get_or days i d) (are i d (omega (arith, less, within))) k e m).1.on in
-            let b = (day_runs (get_or days j d) (are j d within) n f o).1.on in
-            inr (λ same. differ i j d less within (sym a ∙ (same ∙ b))))
+        let a = (day_runs (get_or days i d) (are i d (omega (arith, less, within))) k e m).1.on in
+        let b = (day_runs (get_or days j d) (are j d within) n f o).1.on in
+        inr (λ same. differ i j d less within (sym a ∙ (same ∙ b))))
 
 -- the days of a feed differ
 pub days_differ : (tables : Tables) (options : Options) → AllPairs (λ (a : ServiceDay) (b : ServiceDay). a.day ≢ b.day) (days_of tables options)
@@ -172,8 +172,8 @@ days_differ tables options = λ i j d less within.
     let one : get_or (days_of tables options) i d ≡ f i = get_or-map-range_with_len f 0 options.days i i d (omega (arith, less, few)) (zero-add i) in
     let other : get_or (days_of tables options) j d ≡ f j = get_or-map-range_with_len f 0 options.days j j d few (zero-add j) in
     λ same.
-        let days : (options.first_day +ℤ pos i) ≡ (options.first_day +ℤ pos j) = sym (ap (λ (day : ServiceDay). day.day) one) ∙ (same ∙ ap (λ (day : ServiceDay). day.day) other) in
-        absurd (omega (arith, ints, days, less))
+    let days : (options.first_day +ℤ pos i) ≡ (options.first_day +ℤ pos j) = sym (ap (λ (day : ServiceDay). day.day) one) ∙ (same ∙ ap (λ (day : ServiceDay). day.day) other) in
+    absurd (omega (arith, ints, days, less))
 
 pub sound_runs : (stops : ℕ) (trips : List Trip) (calls : List (List Call)) (tables : Tables) (options : Options) → All (IsSoundTrip stops) calls → All IsSoundDay (days_of tables options)
     → AreSoundRuns stops (length trips) (runs_of trips calls (days_of tables options))
