@@ -100,7 +100,7 @@ fn first_day_in(text: &str) -> Option<DayNo>
 /// A number from `low` to `high`, or `usual` where none is given.
 fn number_or(usual: u32, low: u32, high: u32, text: Option<&str>) -> Option<u32>
     requires range { (low ≤ usual) × (usual ≤ high) }
-    ensures number { result ≡ number_or usual low high (option_map (λ text. text.now) text) }
+    ensures number { result ≡ number_or usual low high (option_map (λ text. text.now) text.entry) }
     ensures range { IfSome result (λ n. (low ≤ n) × (n ≤ high)) }
 {
     let Some(text) = text else {
