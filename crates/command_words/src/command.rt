@@ -12,7 +12,10 @@ use std::alloc::{AllocFailed, Global};
 #[derive(Debug, Drop)]
 pub enum Command<'a> {
     /// `check FOLDER`: read the feed of a folder and count what is in it.
-    Check { folder: &'a str, options: Options },
+    Check {
+        folder: &'a str,
+        options: Options,
+    },
     /// `plan FOLDER QUERY`: plan journeys over the feed of a folder, by the query of a plan's target.
     Plan {
         folder: &'a str,
