@@ -1,0 +1,9 @@
+//! What a request asks for, over runs and edges: a page of its best journeys, and the direct walk.
+#![tactic(auto)]
+
+mod plan;
+
+pub use plan::plan_runs;
+
+#[cfg(test)]
+mod tests;

@@ -1,0 +1,59 @@
+ghost use Rattle.std.specs.Prelude.{◌≡◌, ◌↔◌, ◌<◌, ◌≤◌, ◌^◌, IfOk, IsTrue, length, take};
+ghost use Rattle.std.specs.List.{All};
+ghost use Rattle.otp_model.specs.Plane.{IsPlaceOf};
+ghost use Rattle.otp_model.specs.Ranges.{IsRequestInRange, IsTimely};
+ghost use Rattle.otp_model.specs.Whole.{IsPage, left_of};
+ghost use Rattle.walk_table.specs.Direct.{IsDirect};
+ghost use Rattle.planner.specs.Entries.{IsEntry};
+
+use otp_base::{List, Memory};
+use otp_model::{Edges, Found, Page, Request, Run};
+use paging::page;
+use plain_search::all_best;
+use std::alloc::Global;
+use walk_table::direct;
+
+/// The page of the best journeys that a request asks for, whether more follow, and the least seconds of a
+/// walk from one of its places to the other without a ride, if there is such a walk.
+pub fn plan_runs(
+    alloc: Global,
+    runs: &[Run],
+    edges: &Edges,
+    request: &Request,
+) -> Result<Page, Memory>
+    requires runs { All IsTimely runs.now }
+    requires request { IsRequestInRange request.now }
+    requires reach { edges.now.profile.reach ≤ 5000000 }
+    requires speed { 0 < edges.now.profile.speed }
+    requires stops { length edges.now.stops < 2 ^ 32 }
+    requires from { IsPlaceOf edges.now.stops request.now.from }
+    requires to { IsPlaceOf edges.now.stops request.now.to }
+    ensures page { IfOk result (λ page. IsPage runs.now edges.now request.now page.found page.more) }
+    ensures direct { IfOk result (λ page. IsDirect edges.now request.now.from request.now.to page.direct) }
+    // Each entry of the page is a journey of the runs that departs in the window, with its value.
+    ensures entries { IfOk result (λ page. All (IsEntry runs.now edges.now request.now) page.found) }
+{
+    let best = all_best(alloc, runs, edges, request)?;
+    let (found, more) = page_above(alloc, best, request)?;
+    let direct = direct(edges, &request.from, &request.to);
+    Ok(Page {
+        found,
+        more,
+        direct,
+    })
+}
+
+/// The first entries of a whole list above the request's cursor, and whether more follow.
+fn page_above(
+    alloc: Global,
+    whole: Vec<Found>,
+    request: &Request,
+) -> Result<(List<Found>, bool), Memory>
+    ensures found { IfOk result (λ page. page.0 ≡ take request.now.page (left_of request.now whole.items)) }
+    ensures more { IfOk result (λ page. IsTrue page.1 ↔ (request.now.page < length (left_of request.now whole.items))) }
+{
+    match &request.cursor {
+        None => page(alloc, whole, None, request.page),
+        Some(cursor) => page(alloc, whole, Some(&cursor.value), request.page),
+    }
+}
