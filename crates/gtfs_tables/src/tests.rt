@@ -52,15 +52,29 @@ fn reads_all_files(rt: HostRuntime) -> Result<(), Fail> {
         assert!(rt; false);
         return Ok(());
     };
-    assert_eq!(rt; tables.agencies.len() + tables.routes.len() + tables.trips.len(), 3);
+    assert_eq!(rt;
+        tables.agencies.len() + tables.routes.len() + tables.trips.len(),
+        3
+    );
     for (stop, (lat, lon)) in tables.stops.as_slice().iter().zip([(0, 0), (-100_000, 5)]) {
-        assert_eq!(rt; (stop.stop_lat, stop.stop_lon, stop.location_type), (lat, lon, 0));
+        assert_eq!(rt;
+            (stop.stop_lat, stop.stop_lon, stop.location_type),
+            (lat, lon, 0)
+        );
     }
-    for (row, times) in tables.stop_times.as_slice().iter().zip([(Some(28_800), Some(28_801)), (None, None)]) {
+    for (row, times) in tables
+        .stop_times
+        .as_slice()
+        .iter()
+        .zip([(Some(28_800), Some(28_801)), (None, None)])
+    {
         assert_eq!(rt; (row.arrival_time, row.departure_time), times);
     }
     for row in tables.calendars.as_slice() {
-        assert_eq!(rt; (row.monday, row.tuesday, row.sunday, row.end_date), (1, 0, 1, 19_849));
+        assert_eq!(rt;
+            (row.monday, row.tuesday, row.sunday, row.end_date),
+            (1, 0, 1, 19_849)
+        );
     }
     for row in tables.dates.as_slice() {
         assert_eq!(rt; (row.date, row.exception_type), (-1, 1));
