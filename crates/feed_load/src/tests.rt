@@ -74,17 +74,15 @@ fn loads_a_feed(rt: HostRuntime) -> Result<(), Fail> {
     // The service runs on the first of the two days alone.
     assert_eq!(rt; loaded.feed.runs.len(), 3);
     assert_eq!(rt; (loaded.edges.from.len(), loaded.passed), (4, 0));
-    // B stands halfway between 08:00 and 08:40.
-    for (run, (trip, second)) in loaded
-        .feed
-        .runs
-        .as_slice()
-        .iter()
-        .zip([(0, 30_000), (1, 30_600), (2, 31_200)])
-    {
+    // B stands halfway between 08:00 and 08:40; the day starts at 1,714,953,600.
+    for (run, (trip, arrival)) in loaded.feed.runs.as_slice().iter().zip([
+        (0, 1_714_983_600),
+        (1, 1_714_984_200),
+        (2, 1_714_984_800),
+    ]) {
         assert_eq!(rt; (run.trip, run.day), (trip, 19_849));
         if let [_, call, ..] = run.calls.as_slice() {
-            assert_eq!(rt; call.arrival, 1_714_953_600 + second);
+            assert_eq!(rt; call.arrival, arrival);
         }
     }
     Ok(())
