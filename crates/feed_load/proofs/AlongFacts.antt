@@ -1,19 +1,11 @@
 -- Along the calls of a trip no time falls, so that all lie between those of the first and the last row.
-use Rattle.std.proofs.Common.{◌≡◌, ℕ, zero, suc, ◌+◌, ◌-◌, ◌<◌, ◌≤◌, ◌⊎◌, ℤ, pos, negsuc, ◌≤ℤ◌, ◌<ℤ◌, List, length, get_or, Some, None, sym, subst, ap, ◌∙◌, inl, inr, arith}
-use Rattle.std.specs.List.{All, AllPairs, Contains, slice_get}
-use Rattle.std.specs.Prelude.{IfSome, Option}
+use Rattle.std.proofs.Common.{◌≡◌, ℕ, zero, suc, ◌+◌, ◌-◌, ◌<◌, ◌⊎◌, ℤ, pos, negsuc, ◌≤ℤ◌, ◌<ℤ◌, List, length, get_or, Some, subst, inl, inr, arith}
+use Rattle.std.specs.List.{slice_get}
 use Rattle.std.proofs.lemmas.Bool.{cases_lt}
 use Rattle.std.proofs.lemmas.Int.{ints}
-use Rattle.std.proofs.lemmas.Option.{slice_get-get_or, slice_get_within}
-use Rattle.otp_model.specs.Rows.{IsClock}
-use Rattle.otp_model.specs.Sound.{IsLaterCall}
-use Rattle.otp_model.specs.declared.links.TimeRow.{TimeRow}
+use Rattle.std.proofs.lemmas.Option.{slice_get-get_or}
 use Rattle.otp_model.specs.declared.timetable.Call.{Call}
-use Rattle.feed_load.specs.Anchors.{HasClocks}
-use Rattle.feed_load.specs.Calls.{AreCallsOf, FallsAt, GivesTimes, GivesTimesAt, IsCallAt, IsInOrder, first_given}
-use Rattle.feed_load.specs.Runs.{HasClock}
-use Rattle.feed_load.specs.Trips.{AreGoodCalls}
-use Rattle.feed_load.proofs.EachFacts.{each_read}
+use Rattle.feed_load.specs.Calls.{FallsAt}
 
 -- of two numbers one is at most the other, or greater
 sides : (x y : ℤ) → (x ≤ℤ y) ⊎ (y <ℤ x)

@@ -1,6 +1,6 @@
 -- Counting calls up to a limit.
-use Rattle.std.proofs.Common.{◌≡◌, ℕ, ◌+◌, ◌≤◌, min, List, ◌∷◌, [], ◌++◌, Some, Bool, true, false, cond, map, length, refl, ap, sym, ◌∙◌, take, get_or, ◌<◌, arith}
-use Rattle.std.specs.List.{flat_map, range_with_len, slice_get, sum_by}
+use Rattle.std.proofs.Common.{◌≡◌, ℕ, ◌+◌, min, List, ◌∷◌, [], ◌++◌, Some, Bool, true, false, cond, map, length, refl, ap, ◌∙◌, take, get_or, ◌<◌, arith}
+use Rattle.std.specs.List.{flat_map, range_with_len, slice_get}
 use Rattle.std.proofs.lemmas.Grind.{flat_map-append}
 use Rattle.std.proofs.lemmas.List.{append-nil, length-map, take_more}
 use Rattle.std.proofs.lemmas.List.Sums.{sum_by-append}

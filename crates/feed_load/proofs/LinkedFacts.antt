@@ -1,6 +1,6 @@
 -- What linked tables give to their trips and runs.
-use Rattle.std.proofs.Common.{◌≡◌, ℕ, ◌+◌, ◌<◌, ◌≤◌, ◌^◌, List, [], length, get_or, None, Some, false, refl, sym, subst, ap, ◌∙◌, inl, inr, arith}
-use Rattle.std.specs.List.{All, filter}
+use Rattle.std.proofs.Common.{ℕ, ◌<◌, List, length, get_or, None, false, sym, inr, arith}
+use Rattle.std.specs.List.{All}
 use Rattle.std.proofs.lemmas.List.Elements.{All-filter}
 use Rattle.std.proofs.lemmas.List.Sums.{length-filter}
 use Rattle.otp_model.specs.declared.feed_fault.FeedFault.{FeedFault}
@@ -9,16 +9,13 @@ use Rattle.otp_model.specs.declared.links.TimeRow.{TimeRow}
 use Rattle.otp_model.specs.declared.options.Options.{Options}
 use Rattle.otp_model.specs.declared.tables.Tables.{Tables}
 use Rattle.otp_model.specs.declared.timetable.Call.{Call}
-use Rattle.otp_model.specs.declared.timetable.Run.{Run}
 use Rattle.gtfs_links.specs.declared.feed.Linked.{Linked}
 use Rattle.gtfs_links.specs.Resolved.{IsResolved, is_time_of}
-use Rattle.feed_load.specs.declared.trip_calls.TripFault.{TripFault}
-use Rattle.feed_load.specs.declared.trip_calls.TripFault.TheVariants as trip
 use Rattle.feed_load.specs.Anchors.{HasClocks}
-use Rattle.feed_load.specs.Calls.{EachAt, rows_of}
-use Rattle.feed_load.specs.Loaded.{AreCalls, IsFault, IsOverfull, IsRunsFaultOf, IsTripsFault, feed_runs, too_many}
+use Rattle.feed_load.specs.Calls.{rows_of}
+use Rattle.feed_load.specs.Loaded.{AreCalls, IsFault, IsOverfull, IsRunsFaultOf, feed_runs, too_many}
 use Rattle.feed_load.specs.Runs.{IsSoundTrip}
-use Rattle.feed_load.specs.Trips.{AreTripRows, IsFirstFault, IsTripOf}
+use Rattle.feed_load.specs.Trips.{AreTripRows, IsTripOf}
 use Rattle.feed_load.proofs.EachFacts.{each_read}
 use Rattle.feed_load.proofs.TripFacts.{sound_trip}
 
@@ -50,6 +47,6 @@ sound_trips linked calls is are = λ k d less.
 -- too many stops, trips or calls are a fault of the runs
 pub overfull_fault : (options : Options) (tables : Tables) (linked : Linked) (calls : List (List Call)) (file : ℕ) (fault : FeedFault)
     → AreCalls linked calls → IsOverfull linked (feed_runs options tables linked calls) file → IsFault fault (too_many file) → IsRunsFaultOf options tables linked fault
-overfull_fault options tables linked calls file (feed.At c f r column) are over is = inr (calls, are, (file, is, over))
+overfull_fault options tables linked calls file (feed.At c f r column) are over is = inr (calls, are, (file, sym is, over))
 overfull_fault options tables linked calls file feed.Read are over is = is
 overfull_fault options tables linked calls file feed.Memory are over is = tt

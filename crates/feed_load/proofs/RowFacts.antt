@@ -1,5 +1,5 @@
 -- Rows with times and without, round a place.
-use Rattle.std.proofs.Common.{◌≡◌, ℕ, ◌+◌, ◌-◌, ◌<◌, ◌≤◌, min, List, length, Some, None, get_or, subst, sym, ◌∙◌, inl, inr, arith, pos}
+use Rattle.std.proofs.Common.{◌≡◌, ℕ, ◌+◌, ◌<◌, ◌≤◌, List, length, Some, get_or, subst, sym, inl, inr, arith}
 use Rattle.std.specs.List.{slice_get}
 use Rattle.std.proofs.lemmas.Bool.{cases_lt}
 use Rattle.std.proofs.lemmas.Option.{slice_get-get_or}
@@ -8,7 +8,7 @@ use Rattle.otp_model.specs.declared.timetable.Call.{Call}
 use Rattle.feed_load.specs.declared.gap.Anchor.{Anchor}
 use Rattle.feed_load.specs.declared.trip_calls.Ends.{Ends}
 use Rattle.feed_load.specs.Anchors.{AreEnds, IsLeft, IsReached}
-use Rattle.feed_load.specs.Calls.{GivesTimesAt, HasEnds, IsCallAt, IsCallOf, IsFilled, IsGap, IsUntimed, IsUntimedAt, time_in_gap}
+use Rattle.feed_load.specs.Calls.{GivesTimesAt, HasEnds, IsCallAt, IsCallOf, IsUntimed, IsUntimedAt, time_in_gap}
 
 pub untimed_at : (rows : List TimeRow) (place : ℕ) (d : TimeRow) → place < length rows → IsUntimed (get_or rows place d) → IsUntimedAt rows place
 untimed_at rows place d less untimed = (get_or rows place d, slice_get-get_or rows place d less, untimed)

@@ -1,7 +1,7 @@
 -- What holds of the calls of every trip.
-use Rattle.std.proofs.Common.{◌≡◌, ℕ, zero, suc, ◌+◌, ◌-◌, ◌<◌, ◌≤◌, ℤ, pos, ◌≤ℤ◌, List, [], length, get_or, Some, None, sym, subst, ap, ◌∙◌, inl, inr, arith}
-use Rattle.std.specs.Prelude.{IfSome, Option}
-use Rattle.std.specs.List.{All, AllPairs, slice_get}
+use Rattle.std.proofs.Common.{◌≡◌, ℕ, zero, suc, ◌+◌, ◌-◌, ◌<◌, ◌≤◌, pos, ◌≤ℤ◌, List, length, get_or, Some, None, subst, inl, inr, arith}
+use Rattle.std.specs.Prelude.{Option}
+use Rattle.std.specs.List.{All, AllPairs}
 use Rattle.std.proofs.lemmas.Bool.{cases_eq}
 use Rattle.std.proofs.lemmas.Int.{ints}
 use Rattle.std.proofs.lemmas.Option.{get_or_from_slice_get, slice_get_within}
@@ -10,9 +10,9 @@ use Rattle.otp_model.specs.Sound.{IsLaterCall}
 use Rattle.otp_model.specs.declared.links.TimeRow.{TimeRow}
 use Rattle.otp_model.specs.declared.timetable.Call.{Call}
 use Rattle.feed_load.specs.Anchors.{HasClocks}
-use Rattle.feed_load.specs.Calls.{AreCallsOf, FallsAt, GivesTimes, GivesTimesAt, IsCallAt, IsInOrder, first_given, rows_of}
+use Rattle.feed_load.specs.Calls.{GivesTimesAt, IsCallAt, first_given, rows_of}
 use Rattle.feed_load.specs.Runs.{HasClock, IsSoundTrip}
-use Rattle.feed_load.specs.Trips.{AreCallsOfTrip, AreGoodCalls, IsTripOf}
+use Rattle.feed_load.specs.Trips.{AreGoodCalls, IsTripOf}
 use Rattle.feed_load.proofs.AlongFacts.{forward, stays}
 use Rattle.feed_load.proofs.EachFacts.{each_read}
 use Rattle.feed_load.proofs.OrderFacts.{in_order_all, in_order_some}

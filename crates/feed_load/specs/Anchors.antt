@@ -1,5 +1,5 @@
 -- The rows with times that stand round a place.
-use Rattle.std.specs.Prelude.{◌≡◌, ℕ, ◌-◌, ◌^◌, ◌<◌, ◌≤◌, List, length, Some, slice_get}
+use Rattle.std.specs.Prelude.{ℕ, ◌-◌, ◌^◌, ◌<◌, ◌≤◌, List, length}
 use Rattle.std.specs.List.{All}
 use Rattle.otp_model.specs.Rows.{IsClock}
 use Rattle.otp_model.specs.declared.links.TimeRow.{TimeRow}

@@ -1,10 +1,11 @@
 -- The calls of a trip: its rows of `stop_times.txt` by rising stop_sequence, with a time where none is given
 -- (GTFS Schedule reference, `stop_times.txt`). A call without a time stands in equal steps between the calls
 -- with times around it; that filling is this project's own. Times are seconds of the service day.
-use Rattle.std.specs.Prelude.{◌≡◌, ◌⊎◌, ℕ, ◌-◌, ◌<◌, ◌≤◌, ℤ, pos, ◌+ℤ◌, ◌-ℤ◌, ◌*ℤ◌, ◌<ℤ◌, List, length, Option, None, Some, slice_get}
+use Rattle.std.specs.Prelude.{◌≡◌, ◌⊎◌, ℕ, ◌-◌, ◌<◌, ℤ, pos, ◌+ℤ◌, ◌-ℤ◌, ◌*ℤ◌, ◌<ℤ◌, List, length, Option, None, Some, slice_get}
 use Rattle.std.specs.Int.{int_div_euclid}
 use Rattle.std.specs.List.{AllPairs, Contains, filter}
 use Rattle.gtfs_links.specs.Resolved.{is_time_of}
+pub use Rattle.walk_table.specs.Edges.{EachAt}
 use Rattle.otp_model.specs.declared.links.TimeRow.{TimeRow}
 use Rattle.otp_model.specs.declared.timetable.Call.{Call}
 
@@ -94,10 +95,6 @@ pub record IsCallAt (rows : List TimeRow) (place : ℕ) (call : Call) : Type 0 w
   pub stands : slice_get rows place ≡ Some row
   pub is : IsCallOf row call
   pub times : IsGiven rows place call ⊎ IsFilled rows place call
-
--- a fact of each item and its place
-abbrev pub EachAt : {X : Type 0} → (ℕ → X → Type 0) → List X → Type 0
-EachAt {X} P xs = (place : ℕ) (x : X) → slice_get xs place ≡ Some x → P place x
 
 -- the calls of rows that are in order
 pub record AreCallsOf (rows : List TimeRow) (calls : List Call) : Type 0 where

@@ -1,13 +1,14 @@
 -- The feed that tables spell, or the first fault that is found once their references hold: causes 10 and 11 of
 -- trips, in row order, and then cause 13 of what is too many. The numbers of causes and limits are this
 -- project's own.
-use Rattle.std.specs.Prelude.{◌≡◌, ◌⊎◌, ℕ, ◌+◌, ◌<◌, ◌≤◌, List, [], length, Result, Ok, Err, Option, codes}
+use Rattle.std.specs.Prelude.{◌≡◌, ◌⊎◌, ℕ, ◌+◌, ◌<◌, ◌≤◌, List, [], length, Result, Ok, Err, codes}
 use Rattle.otp_model.specs.declared.feed_fault.FeedFault.{FeedFault}
 use Rattle.otp_model.specs.declared.feed_fault.FeedFault.TheVariants as feed
 use Rattle.otp_model.specs.declared.options.Options.{Options}
 use Rattle.otp_model.specs.declared.tables.Tables.{Tables}
 use Rattle.otp_model.specs.declared.timetable.Call.{Call}
 use Rattle.otp_model.specs.declared.timetable.Run.{Run}
+pub use Rattle.gtfs_tables.specs.Feed.{IsFault}
 use Rattle.gtfs_links.specs.declared.feed.Linked.{Linked}
 use Rattle.gtfs_links.specs.Linked.{linked_of}
 use Rattle.walk_table.specs.Edges.{AreEdges, HasMoreEdges, edge_count}
@@ -75,12 +76,6 @@ abbrev pub IsTimeFault : Linked → FeedFault → Type 0
 IsTimeFault linked fault =
     ((row : ℕ) × (fault ≡ time_fault 10 row) × IsFirstFault linked.times (trip.NoTimes row))
     ⊎ ((row : ℕ) × (fault ≡ time_fault 11 row) × IsFirstFault linked.times (trip.TimesFall row))
-
--- this fault, unless memory ran out
-abbrev pub IsFault : FeedFault → FeedFault → Type 0
-IsFault (feed.At cause file row column) wanted = feed.At cause file row column ≡ wanted
-IsFault feed.Read wanted = ⊥
-IsFault feed.Memory wanted = Unit {0}
 
 -- a trip's fault, as one of the feed
 abbrev pub IsTripsFault : TripFault → FeedFault → Type 0

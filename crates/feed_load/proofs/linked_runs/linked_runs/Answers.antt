@@ -1,8 +1,5 @@
-use Rattle.std.proofs.Common.{◌≡◌, ℕ, List, length, get_or, sym, subst, ap, ◌∙◌}
-use Rattle.otp_model.specs.declared.timetable.Call.{Call}
-use Rattle.feed_load.specs.declared.runs.ServiceDay.{ServiceDay}
-use Rattle.feed_load.specs.Loaded.{AreCalls, IsOverfull}
-use Rattle.feed_load.specs.Runs.{IsSoundTrip, runs_of}
+use Rattle.std.proofs.Common.{length, ◌∙◌}
+use Rattle.feed_load.specs.Loaded.{AreCalls}
 use Rattle.feed_load.proofs.LinkedFacts.{overfull_fault, sound_trips, trip_rows}
 use Rattle.feed_load.proofs.SoundFacts.{sound_runs}
 use Rattle.feed_load.proofs.linked_runs.linked_runs.Goals as goal

@@ -1,5 +1,4 @@
-use Rattle.std.proofs.Common.{◌≡◌, ◌≤◌, ◌^◌, length, w32, to_z, of_z, ℤ, Fits, w64, arith}
-use Rattle.std.proofs.lemmas.Int.{to_z-of_z}
+use Rattle.std.proofs.Common.{◌≤◌, ◌^◌, length}
 use Rattle.feed_load.proofs.RunFacts.{first_is}
 use Rattle.feed_load.proofs.SoundFacts.{passed_fits, sound_feed}
 use Rattle.feed_load.proofs.loading.load_linked.Goals as goal

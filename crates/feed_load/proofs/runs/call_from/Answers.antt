@@ -1,4 +1,3 @@
-use Rattle.std.proofs.Common.{◌≡◌}
 use Rattle.feed_load.proofs.RunFacts.{time_from}
 use Rattle.feed_load.proofs.runs.call_from.Goals as goal
 

@@ -1,10 +1,8 @@
-use Rattle.std.proofs.Common.{◌≡◌, ◌^◌, ◌∙◌, Ok, ℤ, w32, w64, to_z, of_z, lit<, sym, subst, FitsSigned}
+use Rattle.std.proofs.Common.{◌≡◌, ◌^◌, w32, w64, to_z, of_z, lit<}
 use Rattle.std.proofs.lemmas.Int.{to_z-of_z}
 use Rattle.otp_model.specs.Rows.{IsWithin}
 use Rattle.otp_model.proofs.Lengths.{fits}
 use Rattle.service_days.specs.LocalTime.{start_of}
-use Rattle.feed_load.specs.declared.runs.ServiceDay.{ServiceDay}
-use Rattle.feed_load.specs.Runs.{service_day}
 use Rattle.feed_load.proofs.RunFacts.{start_within}
 use Rattle.feed_load.proofs.runs.service_day.Goals as goal
 

@@ -1,6 +1,5 @@
-use Rattle.std.proofs.Common.{◌≡◌, ℕ, ◌+◌, ◌-◌, List, length, min, subst, sym, arith}
+use Rattle.std.proofs.Common.{◌≡◌, ℕ, ◌+◌, ◌-◌, length, min, subst, sym, arith}
 use Rattle.std.proofs.lemmas.List.{length_push}
-use Rattle.otp_model.specs.declared.links.TimeRow.{TimeRow}
 use Rattle.feed_load.specs.declared.gap.Anchor.{Anchor}
 use Rattle.feed_load.specs.Anchors.{IsReached}
 use Rattle.feed_load.proofs.EachFacts.{each_push}

@@ -1,4 +1,4 @@
-use Rattle.std.proofs.Common.{◌≡◌, ◌+◌, ◌-◌, length, min}
+use Rattle.std.proofs.Common.{◌≡◌, ◌-◌, length, min}
 use Rattle.feed_load.specs.Anchors.{IsReached}
 use Rattle.feed_load.specs.Calls.{EachAt}
 use Rattle.feed_load.proofs.trip_calls.reached_from_each.Given as goal

@@ -1,10 +1,9 @@
-use Rattle.std.proofs.Common.{rules, Global, ℕ, ◌+◌, ◌<◌, ◌≡◌, ◌≢◌, List, length, get_or, ap, sym, ◌∙◌, subst, arith}
+use Rattle.std.proofs.Common.{rules, Global, ℕ, ◌<◌, ◌≡◌, ◌≢◌, List, length, ap, sym, ◌∙◌, subst, arith}
 use Rattle.std.specs.List.{AllPairs}
 use Rattle.std.proofs.lemmas.Iterator.Adapters.{YieldsList-from_vec}
-use Rattle.std.proofs.lemmas.Iterator.Consumers.{YieldsList-turn, YieldsList-end}
+use Rattle.std.proofs.lemmas.Iterator.Consumers.{YieldsList-turn}
 use Rattle.std.proofs.lemmas.List.{length_push}
 use Rattle.otp_model.specs.declared.links.TimeRow.{TimeRow}
-use Rattle.otp_model.specs.declared.timetable.Call.{Call}
 use Rattle.feed_load.specs.Anchors.{AreRows}
 use Rattle.feed_load.specs.Calls.{rows_of}
 use Rattle.feed_load.specs.Trips.{AreCallsOfTrip, IsTripOf}

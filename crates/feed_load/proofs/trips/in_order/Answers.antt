@@ -1,4 +1,3 @@
-use Rattle.std.proofs.Common.{ap, length, ◌∙◌, List, ◌≡◌}
 use Rattle.std.proofs.lemmas.List.Sorted.{length_permutation}
 use Rattle.feed_load.proofs.OrderFacts.{in_order_from_sorted}
 use Rattle.feed_load.proofs.trips.in_order.Goals as goal

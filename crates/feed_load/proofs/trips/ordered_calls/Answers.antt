@@ -1,4 +1,4 @@
-use Rattle.std.proofs.Common.{◌<◌, ◌≡◌, length, arith}
+use Rattle.std.proofs.Common.{arith}
 use Rattle.feed_load.proofs.OrderFacts.{in_order_rows}
 use Rattle.feed_load.proofs.trips.ordered_calls.Goals as goal
 

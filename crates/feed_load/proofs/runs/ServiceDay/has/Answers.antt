@@ -1,5 +1,4 @@
-use Rattle.std.proofs.Common.{◌∙◌, ◌≡◌, List, ℕ, sym, ap}
-use Rattle.std.specs.List.Sorted.{IsStrictlyIncreasing}
+use Rattle.std.proofs.Common.{◌∙◌, List, ℕ, ap}
 use Rattle.feed_load.specs.Runs.{is_among}
 use Rattle.feed_load.proofs.AmongFacts.{among_found}
 use Rattle.feed_load.proofs.runs.ServiceDay.has.Goals as goal
