@@ -1,5 +1,5 @@
 -- What words ask for, from what was read of them.
-use Rattle.std.proofs.Common.{◌≡◌, ◌<◌, ◌≤◌, ℕ, true, false, List, [], ◌∷◌, Option, Some, None, Bor, length, map, get_or, codes, refl, arith}
+use Rattle.std.proofs.Common.{◌≡◌, ◌<◌, ◌≤◌, ℕ, true, false, List, [], ◌∷◌, Some, None, Bor, length, map, get_or, codes, refl, arith}
 use Rattle.std.specs.Str.{bytes_eq}
 use Rattle.otp_model.specs.declared.options.Options.{Options}
 use Rattle.command_words.specs.Commands.{IsTask, Meets, task_of, task_on, texts_in}

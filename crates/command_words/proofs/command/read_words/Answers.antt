@@ -1,7 +1,7 @@
-use Rattle.std.proofs.Common.{rules, ◌≡◌, ◌∙◌, map, string_bytes, ap, sym, arith, List, ℕ}
+use Rattle.std.proofs.Common.{rules, ◌∙◌, map, string_bytes, ap, sym, arith}
 use Rattle.command_words.proofs.GivesFacts.{meets-some}
 use Rattle.command_words.proofs.TaskFacts.{check-task, plan-task, task-read, no-check, no-plan, no-positional, too-many}
-use Rattle.command_words.specs.Commands.{IsTask, task_on}
+use Rattle.command_words.specs.Commands.{task_on}
 use Rattle.command_words.specs.Texts.{texts_of}
 use Rattle.command_words.specs.Values.{AreAsked}
 use Rattle.command_words.proofs.command.read_words.Goals as goal

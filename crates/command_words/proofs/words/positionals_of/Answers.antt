@@ -1,4 +1,4 @@
-use Rattle.std.proofs.Common.{rules, ◌≡◌, ◌∙◌, sym, ap, map, string_bytes, [], ◌∷◌, ◌++◌, refl}
+use Rattle.std.proofs.Common.{rules, ◌∙◌, sym, ap, map, string_bytes, [], ◌∷◌, ◌++◌, refl}
 use Rattle.std.proofs.lemmas.List.{map-append, nil_from_length}
 use Rattle.std.proofs.lemmas.Result.{err_from_is_err_and}
 use Rattle.command_words.specs.Words.{positionals_of}

@@ -1,4 +1,4 @@
-use Rattle.std.proofs.Common.{rules, ◌≡◌, ◌∙◌, sym, ap, map, option_map, string_bytes, ◌∷◌, Some}
+use Rattle.std.proofs.Common.{rules, ◌∙◌, sym, ap, map, option_map, string_bytes, Some}
 use Rattle.std.proofs.lemmas.Option.{slice_get-map}
 use Rattle.std.proofs.lemmas.List.{nil_from_length}
 use Rattle.command_words.specs.Words.{value_of}
