@@ -7,6 +7,7 @@ use Rattle.std.proofs.lemmas.List.Kept.{AllPairs-filter}
 use Rattle.std.proofs.lemmas.List.Sums.{length-filter, count_by-le-length}
 use Rattle.std.proofs.lemmas.List.{append-nil, take_more, get_or-set_other, get_or-set_same, length-set, length_push}
 use Rattle.std.proofs.lemmas.Option.{get_or_from_slice_get, slice_get-get_or, slice_get_within}
+use Rattle.gtfs_links.specs.Resolved.{is_time_of}
 use Rattle.otp_model.specs.declared.links.TimeRow.{TimeRow}
 use Rattle.feed_load.specs.Calls.{EachAt, rows_of}
 use Rattle.feed_load.specs.Anchors.{AreRows, HasClocks}
@@ -26,8 +27,8 @@ groups_push trips groups are = record {
   each = each_push (λ (trip : ℕ) (rows : List TimeRow). rows ≡ rows_of [] trip) groups [] are.each refl;
 }
 
-rows_more : (times : List TimeRow) (row : TimeRow) (trip : ℕ) → rows_of (times ++ row ∷ []) trip ≡ rows_of times trip ++ (cond (row.trip == trip) (row ∷ []) [])
-rows_more times row trip = filter-append (λ (r : TimeRow). r.trip == trip) times (row ∷ [])
+rows_more : (times : List TimeRow) (row : TimeRow) (trip : ℕ) → rows_of (times ++ row ∷ []) trip ≡ rows_of times trip ++ (cond (is_time_of trip row) (row ∷ []) [])
+rows_more times row trip = filter-append (is_time_of trip) times (row ∷ [])
 
 pub groups_more : (trips : ℕ) (times : List TimeRow) (groups : List (List TimeRow)) (row : TimeRow) → row.trip < trips → AreGroups trips times groups → AreGroups trips (times ++ row ∷ []) (add_row groups row)
 groups_more trips times groups row within are = record {
@@ -55,8 +56,8 @@ groups_more trips times groups row within are = record {
         let less : trip < length groups = omega (arith, slice_get_within (set groups row.trip rows) trip x h, length-set groups row.trip rows) in
         each_read (λ (n : ℕ) (old : List TimeRow). old ≡ rows_of times n) groups trip x are.each less
 
-    not_same : (trip : ℕ) → trip ≢ row.trip → (row.trip == trip) ≡ false
-    not_same trip other = ne_eqb row.trip trip (λ same. other (sym same))
+    not_same : (trip : ℕ) → trip ≢ row.trip → is_time_of trip row ≡ false
+    not_same trip other = ne_eqb trip row.trip other
 
 -- one row further along the list
 pub groups_step : (trips : ℕ) (times : List TimeRow) (i : ℕ) (d : TimeRow) (groups : List (List TimeRow)) → i < length times → (get_or times i d).trip < trips
@@ -77,10 +78,10 @@ rows_suit trips times rows trip are less is = rw is (are.some trip less, record 
       (its i d (omega (arith, before, within)) ∙ sym (its j d within)))
   where
     is_its : TimeRow → Bool
-    is_its row = row.trip == trip
+    is_its row = is_time_of trip row
 
     its : (k : ℕ) (d : TimeRow) → k < length (filter is_its times) → (get_or (filter is_its times) k d).trip ≡ trip
-    its k d within = eqb-true (get_or (filter is_its times) k d).trip trip (filter_passes is_its times k d within)
+    its k d within = sym (eqb-true trip (get_or (filter is_its times) k d).trip (filter_passes is_its times k d within))
 
 calls_before : (times : List TimeRow) (list : List (List Call)) (trip : ℕ) → length list ≡ trip → EachAt (IsTripOf times) list → (earlier : ℕ) → earlier < trip → (calls : List Call) × IsTripOf times earlier calls
 calls_before times list trip count each earlier less = (get_or list earlier [], each_read (IsTripOf times) list earlier [] each (omega (arith, count, less)))

@@ -1,8 +1,12 @@
 pub mod AmongFacts
+pub mod AlongFacts
+pub mod CountFacts
 pub mod EachFacts
 pub mod GapFacts
 pub mod GroupFacts
+pub mod LinkedFacts
 pub mod OrderFacts
 pub mod RangeFacts
 pub mod RowFacts
 pub mod RunFacts
+pub mod TripFacts

@@ -69,12 +69,21 @@ in_order_from_sorted rows ordered distinct permuted sorted = record {
           absurd (cc (h, ap is_lt is))
     ]
 
--- what is kept in order keeps what holds of each
+-- what holds of each holds of each in order
+pub in_order_all : (P : TimeRow → Type 0) (rows ordered : List TimeRow) → IsInOrder rows ordered → All P rows → All P ordered
+in_order_all P rows ordered is all = λ k d less.
+    let x : TimeRow = get_or ordered k d in
+    let from : Contains rows x = is.only x (Contains-get_or ordered k d less) in
+    subst P from.2 (all from.0 x from.1)
+
+-- where there are some, there are some in order
+pub in_order_some : (rows ordered : List TimeRow) (d : TimeRow) → IsInOrder rows ordered → 0 < length rows → 0 < length ordered
+in_order_some rows ordered d is some =
+    let there : Contains ordered (get_or rows 0 d) = is.kept (get_or rows 0 d) (Contains-get_or rows 0 d some) in
+    omega (arith, there.1)
+
 pub in_order_rows : (rows ordered : List TimeRow) → length ordered ≡ length rows → IsInOrder rows ordered → AreRows rows → AreRows ordered
 in_order_rows rows ordered same is are = record {
   few = omega (arith, same, are.few);
-  clocks = λ k d less.
-      let x : TimeRow = get_or ordered k d in
-      let from : Contains rows x = is.only x (Contains-get_or ordered k d less) in
-      subst HasClocks from.2 (are.clocks from.0 x from.1);
+  clocks = in_order_all HasClocks rows ordered is are.clocks;
 }

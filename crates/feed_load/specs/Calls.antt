@@ -1,15 +1,16 @@
 -- The calls of a trip: its rows of `stop_times.txt` by rising stop_sequence, with a time where none is given
 -- (GTFS Schedule reference, `stop_times.txt`). A call without a time stands in equal steps between the calls
 -- with times around it; that filling is this project's own. Times are seconds of the service day.
-use Rattle.std.specs.Prelude.{◌≡◌, ◌⊎◌, ℕ, ◌-◌, ◌<◌, ◌≤◌, ◌==◌, ℤ, pos, ◌+ℤ◌, ◌-ℤ◌, ◌*ℤ◌, ◌<ℤ◌, List, length, Option, None, Some, slice_get}
+use Rattle.std.specs.Prelude.{◌≡◌, ◌⊎◌, ℕ, ◌-◌, ◌<◌, ◌≤◌, ℤ, pos, ◌+ℤ◌, ◌-ℤ◌, ◌*ℤ◌, ◌<ℤ◌, List, length, Option, None, Some, slice_get}
 use Rattle.std.specs.Int.{int_div_euclid}
 use Rattle.std.specs.List.{AllPairs, Contains, filter}
+use Rattle.gtfs_links.specs.Resolved.{is_time_of}
 use Rattle.otp_model.specs.declared.links.TimeRow.{TimeRow}
 use Rattle.otp_model.specs.declared.timetable.Call.{Call}
 
 -- the rows of a trip, in row order
 abbrev pub rows_of : List TimeRow → ℕ → List TimeRow
-rows_of times trip = filter (λ row. row.trip == trip) times
+rows_of times trip = filter (is_time_of trip) times
 
 -- the same rows, by rising sequence
 pub record IsInOrder (rows ordered : List TimeRow) : Type 0 where

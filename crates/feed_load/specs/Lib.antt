@@ -2,3 +2,4 @@ pub mod Calls
 pub mod Anchors
 pub mod Trips
 pub mod Runs
+pub mod Loaded

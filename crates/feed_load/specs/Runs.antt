@@ -1,7 +1,8 @@
 -- The runs of a feed: one for each day and each trip whose service runs on it, by day and then by trip (GTFS
 -- Schedule reference, `stop_times.txt` and "Time": times count from noon less 12 hours of the service day).
-use Rattle.std.specs.Prelude.{◌==◌, ◌^◌, ℕ, ℤ, pos, ◌+ℤ◌, List, [], ◌∷◌, length, map, Option, None, Some, Bool, if◌then◌else◌, slice_get, sum_by}
-use Rattle.std.specs.List.{flat_map, list_any, range_with_len}
+use Rattle.std.specs.Prelude.{◌==◌, ◌^◌, ◌<◌, ◌≤ℤ◌, ℕ, ℤ, pos, ◌+ℤ◌, List, [], ◌∷◌, length, map, Option, None, Some, Bool, if◌then◌else◌, slice_get, sum_by}
+use Rattle.std.specs.List.{All, AllPairs, flat_map, list_any, range_with_len}
+use Rattle.otp_model.specs.Sound.{IsLaterCall}
 use Rattle.otp_model.specs.declared.tables.Tables.{Tables}
 use Rattle.otp_model.specs.declared.timetable.Call.{Call}
 use Rattle.otp_model.specs.declared.timetable.Run.{Run}
@@ -64,3 +65,12 @@ pub record IsSoundDay (day : ServiceDay) : Type 0 where
   pub of_years : IsServiceDay day.day
   pub starts : IsWithin (2 ^ 35) day.start
   pub rises : IsStrictlyIncreasing day.services
+
+-- The calls of a trip at so many stops: some, each left no earlier than it is arrived at, by rising sequence and
+-- with no time before an earlier one.
+pub record IsSoundTrip (stops : ℕ) (calls : List Call) : Type 0 where
+  pub some : 0 < length calls
+  pub stops_are : All (λ (call : Call). call.stop < stops) calls
+  pub clocks : All HasClock calls
+  pub stays : All (λ (call : Call). call.arrival ≤ℤ call.departure) calls
+  pub along : AllPairs IsLaterCall calls

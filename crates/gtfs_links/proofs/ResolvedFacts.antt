@@ -1,5 +1,6 @@
 -- What holds of the feed of tables without a fault.
-use Rattle.std.proofs.Common.{◌≡◌, ℕ, ◌+◌, ◌≤◌, List, [], ◌∷◌, ◌++◌, length, map, get_or, suc, zero, Bool, true, false, cond, not, ◌&&◌, Option, None, Some, refl, sym, subst, ◌∙◌, arith, length-append, ℤ, pos, negsuc}
+use Rattle.std.proofs.Common.{◌≡◌, ℕ, ◌+◌, ◌≤◌, List, [], ◌∷◌, ◌++◌, length, map, get_or, suc, zero, Bool, true, false, cond, not, ◌&&◌, Option, None, Some, refl, sym, subst, ◌∙◌, arith, length-append, ℤ, pos, negsuc, ◌*ℤ◌, ◌*◌, ◌^◌, lit≤}
+use Rattle.std.specs.Int.{int_div_euclid}
 use Rattle.std.specs.Option.{option_to_list}
 use Rattle.std.specs.Prelude.{if◌then◌else◌}
 use Rattle.std.specs.List.{All, AllPairs, list_any}
@@ -9,7 +10,7 @@ use Rattle.std.proofs.lemmas.List.Elements.{All-append, All-cons, All-head, All-
 use Rattle.std.proofs.lemmas.List.Kept.{AllPairs-cons, AllPairs-filter}
 use Rattle.std.proofs.lemmas.List.Sums.{count_by-le-length, length-filter}
 use Rattle.name_index.proofs.SightFacts.{place-below}
-use Rattle.otp_model.proofs.Lengths.{scaled_within, whole_within}
+use Rattle.otp_model.proofs.Lengths.{scaled_within, thousandth_within, wider}
 use Rattle.otp_model.specs.Rows.{AreTables, IsStopTimeRow, IsWithin}
 use Rattle.otp_model.specs.Sights.{has_name, place_of}
 use Rattle.otp_model.specs.declared.links.TimeRow.{TimeRow}
@@ -68,6 +69,11 @@ number_of ids id h = by (is_empty id) (has_name ids id) refl h
     by true known e f = tt
     by false true e f = place-below ids id e
     by false false e f = cc f
+
+-- a length of so many millionths of a degree is in range
+length_within : (degrees : ℤ) (scale : ℕ) → IsWithin 180000000 degrees → scale ≤ 111195 → IsWithin (2 ^ 40) (int_div_euclid (degrees *ℤ pos scale) (pos 1000))
+length_within degrees scale d s =
+    thousandth_within (2 ^ 40) (degrees *ℤ pos scale) (wider (180000000 * 111195) (1000 * 2 ^ 40) (degrees *ℤ pos scale) (lit≤ tt) (scaled_within 180000000 111195 degrees scale d s))
 
 pairs_map : {X Y : Type 0} (f : X → Y) (R : Y → Y → Type 0) (xs : List X) → AllPairs (λ (a b : X). R (f a) (f b)) xs → AllPairs R (map f xs)
 pairs_map f R [] h = λ i j d l m. absurd (omega (arith, m))
@@ -132,8 +138,8 @@ module _ (zone : List ℕ) (tables : Tables) (scale : ℕ) (read : AreTables tab
       (λ before r h. stop_fine _ (has_name (stop_ids tables)) r h) [] tables.stops (none_of_stops zone tables fine) in
       record {
         parent = number_of (stop_ids tables) (get_or tables.stops k d).parent_station (parents k d l);
-        x = whole_within _ (scaled_within _ scale row.lon small);
-        y = whole_within _ (scaled_within _ 111195 (wide _ row.lat) (omega arith));
+        x = length_within _ scale row.lon small;
+        y = length_within _ 111195 (wide _ row.lat) (omega arith);
       })
     where
       wide : (z : ℤ) → IsWithin 90000000 z → IsWithin 180000000 z
