@@ -1,0 +1,4 @@
+pub mod Words
+pub mod Values
+pub mod Texts
+pub mod Commands

@@ -1,0 +1,13 @@
+//! The words of the program's command line, read exactly: which command they ask for, on what, and with
+//! which options.
+#![tactic(auto)]
+
+mod command;
+mod texts;
+mod values;
+mod words;
+
+pub use command::{Command, WordsFault, read_words};
+
+#[cfg(test)]
+mod tests;
