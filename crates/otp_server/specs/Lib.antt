@@ -1,4 +1,2 @@
-pub mod Words
 pub mod Lines
-pub mod Plan
-pub mod Offline
+pub mod Reply
