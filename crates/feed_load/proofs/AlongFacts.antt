@@ -38,7 +38,7 @@ module _ (calls : List Call) (never : (place : ℕ) → FallsAt calls place → 
       let back : suc p - 1 ≡ p = omega arith in
       let stands : slice_get calls (suc p - 1) ≡ Some before = rw back (slice_get-get_or calls p d (omega (arith, less))) in
       let not_falls : (call.arrival <ℤ before.departure) → ⊥ =
-          λ falls. never (suc p) (record { call = call; stands = slice_get-get_or calls (suc p) d less; falls = inr (before, omega arith, stands, falls) }) in
+      λ falls. never (suc p) (record { call = call; stands = slice_get-get_or calls (suc p) d less; falls = inr (before, omega arith, stands, falls) }) in
       elim (sides before.departure call.arrival) [ inl fine ↦ fine | inr falls ↦ absurd (not_falls falls) ]
 
   -- so is each later one

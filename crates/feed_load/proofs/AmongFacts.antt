@@ -23,7 +23,7 @@ among_found xs x (Ok i) rises h =
 among_found xs x (Err i) rises h =
     let none = searched xs x (Err i) h (up xs rises) in
     sym (list_any_none (λ (n : ℕ). n == x) xs (λ k d within.
-        elim (cases_lt k i) [
-          | inl less ↦ rw (get_or_default xs k d 0 within) (ne_eqb (get_or xs k 0) x (λ same. absurd (omega (arith, none.1 k less, same))))
-          | inr more ↦ rw (get_or_default xs k d 0 within) (ne_eqb (get_or xs k 0) x (λ same. absurd (omega (arith, none.2 k more within, same))))
-        ]))
+    elim (cases_lt k i) [
+      | inl less ↦ rw (get_or_default xs k d 0 within) (ne_eqb (get_or xs k 0) x (λ same. absurd (omega (arith, none.1 k less, same))))
+      | inr more ↦ rw (get_or_default xs k d 0 within) (ne_eqb (get_or xs k 0) x (λ same. absurd (omega (arith, none.2 k more within, same))))
+    ]))

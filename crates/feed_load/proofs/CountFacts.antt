@@ -31,7 +31,7 @@ count_step day trips calls n trip own initial count new t o so_far added =
     let f : ℕ → List Run = run_at day trips calls in
     let here : f n ≡ run_of day n (Some trip) (Some own) = rw (t, o) refl in
     let all : call_count (flat_map f (range_with_len 0 (n + 1))) ≡ call_count (flat_map f (range_with_len 0 n)) + call_count (run_of day n (Some trip) (Some own)) =
-        ap call_count (gathered_more f n) ∙ (count-append (flat_map f (range_with_len 0 n)) (f n) ∙ ap (λ (rs : List Run). call_count (flat_map f (range_with_len 0 n)) + call_count rs) here) in
+    ap call_count (gathered_more f n) ∙ (count-append (flat_map f (range_with_len 0 n)) (f n) ∙ ap (λ (rs : List Run). call_count (flat_map f (range_with_len 0 n)) + call_count rs) here) in
     omega (arith, so_far, added, all)
 
 -- the runs of one day more
@@ -48,7 +48,7 @@ pub count_days_more : (trips : List Trip) (calls : List (List Call)) (days : Lis
     → new ≡ min (call_count (runs_of trips calls (take (i + 1) days))) 40000001
 count_days_more trips calls days i d count new less so_far added =
     let all : call_count (runs_of trips calls (take (i + 1) days)) ≡ call_count (runs_of trips calls (take i days)) + call_count (runs_of_day trips calls (get_or days i d)) =
-        ap call_count (runs_more trips calls days i d less) ∙ count-append (runs_of trips calls (take i days)) (runs_of_day trips calls (get_or days i d)) in
+    ap call_count (runs_more trips calls days i d less) ∙ count-append (runs_of trips calls (take i days)) (runs_of_day trips calls (get_or days i d)) in
     omega (arith, so_far, added, all)
 
 -- how many calls a run has, if its trip runs

@@ -25,10 +25,21 @@ time_computed start end steps apart x y w d ex ey ew s e few many h =
     let part = part_within (3600000 * 2 ^ 32) ((pos end -ℤ pos start) *ℤ pos steps) apart product in
     let steps_fit : steps < 2 ^ 63 = omega (arith, few) in
     let is : d ≡ int_div_euclid ((pos end -ℤ pos start) *ℤ pos steps) (pos apart) =
-        (rw (ex, ey, kept 3600000 (pos end) (lit< tt) (natural_within 3600000 end (omega (arith, e))), kept 3600000 (pos start) (lit< tt) (natural_within 3600000 start (omega (arith, s))),
-            kept 3600000 (pos end -ℤ pos start) (lit< tt) rise, to_z_pos w64 steps steps_fit, to_z_pos w64 apart many,
-            kept (3600000 * 2 ^ 32) ((pos end -ℤ pos start) *ℤ pos steps) (lit< tt) product) at h) in
-    rw (ew, is, kept 3600000 (pos start) (lit< tt) (natural_within 3600000 start (omega (arith, s))),
-        kept (3600000 * 2 ^ 32) (int_div_euclid ((pos end -ℤ pos start) *ℤ pos steps) (pos apart)) (lit< tt) part)
+    (rw (
+      ex,
+      ey,
+      kept 3600000 (pos end) (lit< tt) (natural_within 3600000 end (omega (arith, e))),
+      kept 3600000 (pos start) (lit< tt) (natural_within 3600000 start (omega (arith, s))),
+      kept 3600000 (pos end -ℤ pos start) (lit< tt) rise,
+      to_z_pos w64 steps steps_fit,
+      to_z_pos w64 apart many,
+      kept (3600000 * 2 ^ 32) ((pos end -ℤ pos start) *ℤ pos steps) (lit< tt) product,
+    ) at h) in
+    rw (
+      ew,
+      is,
+      kept 3600000 (pos start) (lit< tt) (natural_within 3600000 start (omega (arith, s))),
+      kept (3600000 * 2 ^ 32) (int_div_euclid ((pos end -ℤ pos start) *ℤ pos steps) (pos apart)) (lit< tt) part,
+    )
     (kept (3600000 * 2 ^ 32 + 3600000) (pos start +ℤ int_div_euclid ((pos end -ℤ pos start) *ℤ pos steps) (pos apart)) (lit< tt)
-        (sum_within start (int_div_euclid ((pos end -ℤ pos start) *ℤ pos steps) (pos apart)) (3600000 * 2 ^ 32) s part))
+    (sum_within start (int_div_euclid ((pos end -ℤ pos start) *ℤ pos steps) (pos apart)) (3600000 * 2 ^ 32) s part))

@@ -70,12 +70,16 @@ filter_shorter p rows = omega (arith, length-filter p rows, count_by-le-length p
 -- the rows of a trip, of rows that suit
 pub rows_suit : (trips : ℕ) (times rows : List TimeRow) (trip : ℕ) → AreTripRows trips times → trip < trips → rows ≡ rows_of times trip
     → (0 < length rows) × AreRows rows × AllPairs (λ (a : TimeRow) (b : TimeRow). a.seq ≢ b.seq) rows
-rows_suit trips times rows trip are less is = rw is (are.some trip less, record {
+rows_suit trips times rows trip are less is = rw is (
+  are.some trip less,
+  record {
     few = omega (arith, are.few, filter_shorter is_its times);
     clocks = All-filter is_its HasClocks times are.clocks;
-  }, λ i j d before within.
+  },
+  λ i j d before within.
       AllPairs-filter (λ (a : TimeRow) (b : TimeRow). a.trip ≡ b.trip → a.seq ≢ b.seq) is_its times are.distinct i j d before within
-      (its i d (omega (arith, before, within)) ∙ sym (its j d within)))
+      (its i d (omega (arith, before, within)) ∙ sym (its j d within)),
+)
   where
     is_its : TimeRow → Bool
     is_its row = is_time_of trip row

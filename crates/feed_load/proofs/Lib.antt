@@ -9,4 +9,5 @@ pub mod OrderFacts
 pub mod RangeFacts
 pub mod RowFacts
 pub mod RunFacts
+pub mod SoundFacts
 pub mod TripFacts

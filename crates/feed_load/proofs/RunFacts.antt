@@ -70,3 +70,6 @@ days_step tables zone first given n days new day so_far is same added =
     let last : day ≡ f n = is ∙ ap (service_day tables zone) same in
     added ∙ (ap (λ (ds : List ServiceDay). ds ++ day ∷ []) so_far
     ∙ (ap (λ (d : ServiceDay). map f (range_with_len 0 n) ++ d ∷ []) last ∙ sym (map-range_with_len_more f 0 n n (zero-add n))))
+
+pub first_is : (first : ℤ) → pos 0 ≤ℤ first → first ≤ℤ pos 375834 → to_z w32 (of_z w32 first) ≡ first
+first_is first low high = to_z-of_z w32 first (day_fits first (record { low = omega (arith, ints, low); high = omega (arith, ints, high) }))

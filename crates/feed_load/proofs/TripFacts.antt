@@ -93,7 +93,7 @@ module _ (rows : List TimeRow) (calls : List Call) (clocks : All HasClocks rows)
       let one_is : get_or rows i one.row ≡ one.row = get_or_from_slice_get rows i one.row one.row one.stands in
       let other_is : get_or rows j one.row ≡ other.row = get_or_from_slice_get rows j other.row one.row other.stands in
       let up : one.row.seq < other.row.seq =
-          subst (λ (row : TimeRow). one.row.seq < row.seq) other_is (subst (λ (row : TimeRow). row.seq < (get_or rows j one.row).seq) one_is (rises i j one.row less (omega (arith, count, within)))) in
+      subst (λ (row : TimeRow). one.row.seq < row.seq) other_is (subst (λ (row : TimeRow). row.seq < (get_or rows j one.row).seq) one_is (rises i j one.row less (omega (arith, count, within)))) in
       record {
         rises = omega (arith, up, one.is.seq, other.is.seq);
         forward = subst (λ (n : ℕ). (get_or calls i d).departure ≤ℤ (get_or calls n d).arrival) same far;

@@ -1,8 +1,8 @@
 -- The runs of a feed: one for each day and each trip whose service runs on it, by day and then by trip (GTFS
 -- Schedule reference, `stop_times.txt` and "Time": times count from noon less 12 hours of the service day).
-use Rattle.std.specs.Prelude.{◌==◌, ◌^◌, ◌<◌, ◌≤ℤ◌, ℕ, ℤ, pos, ◌+ℤ◌, List, [], ◌∷◌, length, map, Option, None, Some, Bool, if◌then◌else◌, slice_get, sum_by}
+use Rattle.std.specs.Prelude.{◌==◌, ◌≢◌, ◌⊎◌, ◌^◌, ◌<◌, ◌≤ℤ◌, ℕ, ℤ, pos, ◌+ℤ◌, List, [], ◌∷◌, length, map, Option, None, Some, Bool, if◌then◌else◌, slice_get, sum_by}
 use Rattle.std.specs.List.{All, AllPairs, flat_map, list_any, range_with_len}
-use Rattle.otp_model.specs.Sound.{IsLaterCall}
+use Rattle.otp_model.specs.Sound.{IsLaterCall, IsSoundRun}
 use Rattle.otp_model.specs.declared.tables.Tables.{Tables}
 use Rattle.otp_model.specs.declared.timetable.Call.{Call}
 use Rattle.otp_model.specs.declared.timetable.Run.{Run}
@@ -74,3 +74,9 @@ pub record IsSoundTrip (stops : ℕ) (calls : List Call) : Type 0 where
   pub clocks : All HasClock calls
   pub stays : All (λ (call : Call). call.arrival ≤ℤ call.departure) calls
   pub along : AllPairs IsLaterCall calls
+
+-- runs of so many trips at so many stops: each sound, with some calls, and no two of one trip and day
+pub record AreSoundRuns (stops trips : ℕ) (runs : List Run) : Type 0 where
+  pub each : All (IsSoundRun stops trips) runs
+  pub some : All (λ (run : Run). 0 < length run.calls) runs
+  pub others : AllPairs (λ (a b : Run). (a.trip ≢ b.trip) ⊎ (a.day ≢ b.day)) runs

@@ -4,7 +4,7 @@ ghost use Rattle.otp_model.specs.Ranges.{AreOptionsInRange};
 ghost use Rattle.otp_model.specs.Rows.{AreTables};
 ghost use Rattle.gtfs_links.specs.Resolved.{IsResolved};
 ghost use Rattle.feed_load.specs.Loaded.{AreFew, AreRunsOf, IsFault, IsOverfull, IsRunsFaultOf, IsTripsFault, time_fault, too_many};
-ghost use Rattle.feed_load.specs.Runs.{HasClock, IsSoundDay, days_of, runs_of};
+ghost use Rattle.feed_load.specs.Runs.{AreSoundRuns, HasClock, IsSoundDay, days_of, runs_of};
 ghost use Rattle.feed_load.specs.Trips.{IsFirstFault};
 
 use crate::counts::count_calls;
@@ -27,6 +27,7 @@ pub fn linked_runs(
     requires options { AreOptionsInRange options.now }
     requires resolved { IsResolved linked.now }
     ensures runs { IfOk result (AreRunsOf options.now tables.now linked.now) }
+    ensures sound { IfOk result (AreSoundRuns (length linked.now.stops) (length linked.now.trips)) }
     ensures fault { IfErr result (IsRunsFaultOf options.now tables.now linked.now) }
 {
     let calls = match calls_by_trip(alloc, linked.trips.len(), linked.times.as_slice()) {

@@ -131,7 +131,14 @@ fn add_runs(
     ensures { OnOk result (runs.new ≡ runs.old ++ runs_of_day trips.now calls.now day.now) }
 {
     for number in 0..trips.len() {
-        add_run(alloc, runs, day, number as TripNo, &trips[number], &calls[number])?;
+        add_run(
+            alloc,
+            runs,
+            day,
+            number as TripNo,
+            &trips[number],
+            &calls[number],
+        )?;
     }
     Ok(())
 }

@@ -95,11 +95,7 @@ fn filled(alloc: Global, rows: &[TimeRow], ends: Ends) -> Result<Vec<Call>, Memo
 }
 
 /// For each place from the last to the first: the nearest row from it on that gives times.
-fn reached_from_each(
-    alloc: Global,
-    rows: &[TimeRow],
-    arrival: u32,
-) -> Result<Vec<Anchor>, Memory>
+fn reached_from_each(alloc: Global, rows: &[TimeRow], arrival: u32) -> Result<Vec<Anchor>, Memory>
     requires rows { AreRows rows.now }
     requires last { IsReached rows.now (length rows.now - 1) (record { place = length rows.now - 1; time = arrival }) }
     ensures count { IfOk result (λ list. length list.items ≡ length rows.now) }

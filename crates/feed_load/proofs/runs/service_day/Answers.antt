@@ -22,7 +22,7 @@ start_is c = to_z-of_z w64 c.in_ok-start.start (fits (2 ^ 35) c.in_ok-start.star
 pub returns-clause-made : goal.returns-clause-made
 returns-clause-made c =
     let same : c.in_ok-start.start ≡ start_of c.args.zone.now c.args.day =
-        let h = rw (day_is c) at c.in_ok-start.ensures.start in cc h in
+    let h = rw (day_is c) at c.in_ok-start.ensures.start in cc h in
     rw (day_is c, start_is c, same, rw (day_is c) at c.in_ok-services.ensures.whole)
 
 pub returns-clause-sound : goal.returns-clause-sound

@@ -18,9 +18,10 @@ turn c =
     let groups = c.in_ok-groups.groups.items in
     let i = c.into_iter-rows-iterator.ensures.into_iter_gives in
     let road = YieldsList-from_vec {Z = Global} {s = c.into_iter-rows-iterator.result} groups i.0 (search rules) in
-    let step = YieldsList-turn road c.loop-rows.yielded _ c.loop-rows.yielded_by c.next.result c.next.new.self c.in-Some.rows c.in-Some.is c.next.ensures.steps in
-    (omega (arith, step.0, c.in_ok-groups.ensures.count),
-     step.1 ∙ each_read (λ (trip : ℕ) (rows : List TimeRow). rows ≡ rows_of c.args.times.now trip) groups (length c.loop-rows.yielded) c.in-Some.rows c.in_ok-groups.ensures.each step.0)
+    let step = YieldsList-turn road c.loop-rows.yielded _ c.loop-rows.yielded_by c.next.result c.next.new.self c.in-Some.rows c.in-Some.is c.next.ensures.steps in (
+      omega (arith, step.0, c.in_ok-groups.ensures.count),
+      step.1 ∙ each_read (λ (trip : ℕ) (rows : List TimeRow). rows ≡ rows_of c.args.times.now trip) groups (length c.loop-rows.yielded) c.in-Some.rows c.in_ok-groups.ensures.each step.0,
+    )
 
 suits : (c : goal.In-Some) → (0 < length c.in-Some.rows) × AreRows c.in-Some.rows × AllPairs (λ (a : TimeRow) (b : TimeRow). a.seq ≢ b.seq) c.in-Some.rows
 suits c = rows_suit c.args.trips c.args.times.now c.in-Some.rows (length c.loop-rows.yielded) c.requires (turn c).0 (turn c).1
@@ -41,7 +42,7 @@ returns-in-Err-clause-fault c =
     let road = YieldsList-from_vec {Z = Global} {s = c.into_iter-rows-iterator.result} groups i.0 (search rules) in
     let step = YieldsList-turn road c.loop-rows.yielded _ c.loop-rows.yielded_by c.next.result c.next.new.self c.in-Some.rows c.in-Some.is c.next.ensures.steps in
     let is : c.in-Some.rows ≡ rows_of c.args.times.now (length c.loop-rows.yielded) =
-        step.1 ∙ each_read (λ (trip : ℕ) (rows : List TimeRow). rows ≡ rows_of c.args.times.now trip) groups (length c.loop-rows.yielded) c.in-Some.rows c.in_ok-groups.ensures.each step.0 in
+    step.1 ∙ each_read (λ (trip : ℕ) (rows : List TimeRow). rows ≡ rows_of c.args.times.now trip) groups (length c.loop-rows.yielded) c.in-Some.rows c.in_ok-groups.ensures.each step.0 in
     first_fault c.args.times.now c.in-Some.rows c.loop-rows.list.items (length c.loop-rows.yielded) c.in-Err.fault c.loop-rows.invariant.count c.loop-rows.invariant.each is c.in-Err.ensures.fault
 
 pub loop-rows-preserved : goal.loop-rows-preserved
@@ -52,8 +53,8 @@ loop-rows-preserved c =
     let step = YieldsList-turn road c.loop-rows.yielded _ c.loop-rows.yielded_by c.next.result c.next.new.self c.in-Some.rows c.in-Some.is c.next.ensures.steps in
     let kept = c.loop-rows.invariant in
     let is : c.in-Some.rows ≡ rows_of c.args.times.now (length c.loop-rows.list.items) =
-        step.1 ∙ (each_read (λ (trip : ℕ) (rows : List TimeRow). rows ≡ rows_of c.args.times.now trip) groups (length c.loop-rows.yielded) c.in-Some.rows c.in_ok-groups.ensures.each step.0
-        ∙ ap (rows_of c.args.times.now) (sym kept.count)) in
+    step.1 ∙ (each_read (λ (trip : ℕ) (rows : List TimeRow). rows ≡ rows_of c.args.times.now trip) groups (length c.loop-rows.yielded) c.in-Some.rows c.in_ok-groups.ensures.each step.0
+    ∙ ap (rows_of c.args.times.now) (sym kept.count)) in
     rw c.in_ok-push-in-Ok.ensures (record {
       count = simp length_push (omega (arith, kept.count));
       each = each_push (IsTripOf c.args.times.now) c.loop-rows.list.items c.in-Ok.calls kept.each
