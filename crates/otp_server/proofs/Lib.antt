@@ -1,0 +1,2 @@
+pub mod ValueFacts
+pub mod AnswerFacts

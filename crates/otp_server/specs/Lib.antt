@@ -1,2 +1,4 @@
 pub mod Lines
 pub mod Reply
+pub mod Commands
+pub mod Offline

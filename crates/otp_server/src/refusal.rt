@@ -22,7 +22,10 @@ pub enum Refusal {
     /// A read of the folder failed.
     Read,
     /// The query's first parameter at fault.
-    Request { cause: QueryFault, parameter: Text },
+    Request {
+        cause: QueryFault,
+        parameter: Text,
+    },
     /// Memory ran out.
     Memory,
 }

@@ -13,12 +13,7 @@ use query_form::{TargetFault, read_query};
 use std::alloc::Global;
 
 /// The reply to a query, or its first fault.
-pub fn planned(
-    alloc: Global,
-    feed: &Feed,
-    edges: &Edges,
-    query: &str,
-) -> Result<List<u8>, Refusal>
+pub fn planned(alloc: Global, feed: &Feed, edges: &Edges, query: &str) -> Result<List<u8>, Refusal>
     requires { IsSearchable feed.now edges.now }
     ensures done { IfOk result (IsPlanned feed.now edges.now query.now) }
     ensures refused { IfErr result (IsQueryFault feed.now edges.now query.now) }
@@ -31,12 +26,7 @@ pub fn planned(
 }
 
 /// The reply to a request, over no commits.
-fn reply(
-    alloc: Global,
-    feed: &Feed,
-    edges: &Edges,
-    request: &Request,
-) -> Result<List<u8>, Memory>
+fn reply(alloc: Global, feed: &Feed, edges: &Edges, request: &Request) -> Result<List<u8>, Memory>
     requires searchable { IsSearchable feed.now edges.now }
     requires asked { IsAsked feed.now.stops request.now }
     ensures { IfOk result (IsReply feed.now edges.now request.now) }
