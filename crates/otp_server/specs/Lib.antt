@@ -1,4 +1,4 @@
-pub mod Words
 pub mod Lines
-pub mod Plan
+pub mod Reply
+pub mod Commands
 pub mod Offline

@@ -1,37 +1,71 @@
--- The lines that tell journeys of one ride.
-use Rattle.std.specs.Prelude.{ℕ, ℤ, List, [], ◌∷◌, ◌++◌, Option, Some, None, codes, decimal, slice_get}
-use Rattle.std.specs.Fmt.{signed_decimal}
-use Rattle.otp_model.specs.declared.journey.Found.{Found}
-use Rattle.otp_model.specs.declared.journey.Leg.{Leg}
-use Rattle.otp_model.specs.declared.journey.Leg.TheVariants as leg
-use Rattle.otp_model.specs.declared.journey.Value.{Value}
-use Rattle.otp_model.specs.declared.timetable.Call.{Call}
-use Rattle.otp_model.specs.declared.timetable.Trip.{Trip}
+-- The lines of the program and its exit statuses. Their form is this project's own; the files are those of the
+-- GTFS Schedule reference, "Dataset Files".
+use Rattle.std.specs.Prelude.{ℕ, ◌==◌, List, [], ◌∷◌, ◌++◌, codes, decimal, if◌then◌else◌}
+use Rattle.query_form.specs.declared.fault.QueryFault.{QueryFault}
+use Rattle.query_form.specs.declared.fault.QueryFault.TheVariants as fault
+use Rattle.otp_server.specs.declared.refusal.Refusal.{Refusal}
+use Rattle.otp_server.specs.declared.refusal.Refusal.TheVariants as refusal
+use Rattle.otp_server.specs.declared.status.Status.{Status}
+use Rattle.otp_server.specs.declared.status.Status.TheVariants as status
 
-abbrev pub id_or : Option Trip → List ℕ
-id_or None = []
-id_or (Some trip) = trip.id
+-- the exit status of the program
+abbrev pub number_of : Status → ℕ
+number_of status.Done = 0
+number_of status.Words = 2
+number_of status.Feed = 3
+number_of status.Read = 4
+number_of status.Write = 5
+number_of status.Memory = 6
+number_of status.Request = 8
 
--- the id of a trip, which is there for each ride of a schedule
-abbrev pub id_of : List Trip → ℕ → List ℕ
-id_of trips trip = id_or (slice_get trips trip)
+abbrev pub status_of : Refusal → Status
+status_of refusal.Words = status.Words
+status_of (refusal.Feed cause file row column) = status.Feed
+status_of refusal.Read = status.Read
+status_of (refusal.Request cause parameter) = status.Request
+status_of refusal.Memory = status.Memory
 
--- departure, arrival, rides and cost
-abbrev pub value_text : ℤ → ℤ → ℕ → ℕ → List ℕ
-value_text departure arrival rides cost =
-    signed_decimal departure ++ (codes " " ++ (signed_decimal arrival ++ (codes " " ++ (decimal rides ++ (codes " " ++ decimal cost)))))
+-- the names of a feed's files, by their numbers
+abbrev pub file_name : ℕ → List ℕ
+file_name n =
+    if n == 1 then codes "agency.txt"
+    else (if n == 2 then codes "stops.txt"
+    else (if n == 3 then codes "routes.txt"
+    else (if n == 4 then codes "trips.txt"
+    else (if n == 5 then codes "stop_times.txt"
+    else (if n == 6 then codes "calendar.txt"
+    else (if n == 7 then codes "calendar_dates.txt"
+    else (if n == 8 then codes "transfers.txt" else [])))))))
 
--- trip, and the sequences of the boarding and of the alighting
-abbrev pub ride_text : List ℕ → ℕ → ℕ → List ℕ
-ride_text trip board alight = codes " " ++ (trip ++ (codes " " ++ (decimal board ++ (codes " " ++ (decimal alight ++ codes "\n")))))
+-- a column's name, and a dash where none is meant
+abbrev pub or_dash : List ℕ → List ℕ
+or_dash [] = codes "-"
+or_dash (b ∷ bs) = b ∷ bs
 
-abbrev pub ride_line : Value → List ℕ → Call → Call → List ℕ
-ride_line v trip board alight = value_text v.departure v.arrival v.rides v.cost ++ ride_text trip board.seq alight.seq
+abbrev pub cause_name : QueryFault → List ℕ
+cause_name fault.Missing = codes "missing"
+cause_name fault.Bad = codes "bad"
+cause_name fault.Twice = codes "twice"
+cause_name fault.UnknownPlace = codes "unknown"
 
-abbrev pub legs_line : List Trip → Value → List Leg → List ℕ
-legs_line trips v (leg.Walk before ∷ leg.Ride trip day board alight ∷ leg.Walk after ∷ []) = ride_line v (id_of trips trip) board alight
-legs_line trips v _ = []
+-- `feed CAUSE FILE ROW COLUMN`
+abbrev pub feed_line : ℕ → List ℕ → ℕ → List ℕ → List ℕ
+feed_line cause file row column =
+    codes "feed " ++ (decimal cause ++ (codes " " ++ (file ++ (codes " " ++ (decimal row ++ (codes " " ++ (column ++ codes "\n")))))))
 
--- the line of a journey of one ride
-abbrev pub line_of : List Trip → Found → List ℕ
-line_of trips found = legs_line trips found.value found.journey.legs
+-- `request NAME PARAMETER`
+abbrev pub request_line : List ℕ → List ℕ → List ℕ
+request_line cause parameter = codes "request " ++ (cause ++ (codes " " ++ (parameter ++ codes "\n")))
+
+-- the line of a refusal; for want of memory nothing is written
+abbrev pub line_of : Refusal → List ℕ
+line_of refusal.Words = codes "words\n"
+line_of (refusal.Feed cause file row column) = feed_line cause (file_name file) row (or_dash column)
+line_of refusal.Read = codes "read\n"
+line_of (refusal.Request cause parameter) = request_line (cause_name cause) parameter
+line_of refusal.Memory = []
+
+-- `stops=S trips=T runs=R calls=C passed=P`
+abbrev pub counts_line : (stops trips runs calls passed : ℕ) → List ℕ
+counts_line stops trips runs calls passed =
+    codes "stops=" ++ (decimal stops ++ (codes " trips=" ++ (decimal trips ++ (codes " runs=" ++ (decimal runs ++ (codes " calls=" ++ (decimal calls ++ (codes " passed=" ++ (decimal passed ++ codes "\n")))))))))

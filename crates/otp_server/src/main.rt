@@ -1,12 +1,13 @@
-//! The program: `plan FOLDER FROM TO TIME WINDOW` writes the best journeys of one ride over the file
-//! `stop_times.txt` of a folder.
+//! The program over the feed of a folder: `check FOLDER` counts what is in it, and `plan FOLDER QUERY` writes
+//! the best journeys of a query.
 #![tactic(auto)]
 
-mod lines;
+mod commands;
+mod counts;
 mod offline;
-mod plan;
+mod refusal;
+mod reply;
 mod status;
-mod words;
 
 use offline::run_offline;
 use otp_base::{DiskFolder, StdSink};

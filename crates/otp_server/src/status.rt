@@ -1,5 +1,5 @@
 ghost use Rattle.std.specs.Prelude.{◌≡◌};
-ghost use Rattle.otp_server.specs.Offline.{number_of};
+ghost use Rattle.otp_server.specs.Lines.{number_of};
 
 /// How a command ended.
 #[derive(Clone, Copy, Debug, PartialEq, Eq)]
@@ -16,6 +16,8 @@ pub enum Status {
     Write,
     /// Memory ran out.
     Memory,
+    /// The query is refused.
+    Request,
 }
 
 impl Status {
@@ -30,6 +32,7 @@ impl Status {
             Status::Read => 4,
             Status::Write => 5,
             Status::Memory => 6,
+            Status::Request => 8,
         }
     }
 }

@@ -5,47 +5,85 @@ use std::alloc::Global;
 use std::process::Abort;
 use std::test::Fail;
 
-const STOP_TIMES: &str = "trip_id,arrival_time,departure_time,stop_id,stop_sequence\n\
-    T1,08:00:00,08:00:00,A,1\n\
-    T1,08:10:00,08:10:00,B,2\n\
-    T1,08:40:00,08:40:00,D,3\n\
-    T2,08:20:00,08:20:00,C,1\n\
-    T2,08:30:00,08:30:00,D,2\n\
-    T3,7:50:00,7:50:00,A,1\n\
-    T3,08:40:00,08:40:00,D,2\n";
+// Two ways from A to D: with a change on foot from B to C, or by one ride; and an earlier trip.
+const FILES: [(&str, &str); 8] = [
+    (
+        "f/agency.txt",
+        "agency_id,agency_name,agency_url,agency_timezone\nX,Example,https://example.org,Etc/UTC\n",
+    ),
+    (
+        "f/stops.txt",
+        "stop_id,stop_name,stop_lat,stop_lon\nA,A,0.0,0.0\nB,B,0.1,0.0\nC,C,0.1,0.005\nD,D,0.3,0.0\n",
+    ),
+    (
+        "f/routes.txt",
+        "route_id,agency_id,route_short_name,route_type\nR,X,R,3\n",
+    ),
+    (
+        "f/trips.txt",
+        "route_id,service_id,trip_id\nR,S,T1\nR,S,T2\nR,S,T3\n",
+    ),
+    (
+        "f/stop_times.txt",
+        "trip_id,arrival_time,departure_time,stop_id,stop_sequence\n\
+         T1,08:00:00,08:00:00,A,1\nT1,08:10:00,08:10:00,B,2\nT1,08:40:00,08:40:00,D,3\n\
+         T2,08:20:00,08:20:00,C,1\nT2,08:30:00,08:30:00,D,2\n\
+         T3,7:50:00,7:50:00,A,1\nT3,08:40:00,08:40:00,D,2\n",
+    ),
+    (
+        "f/calendar.txt",
+        "service_id,monday,tuesday,wednesday,thursday,friday,saturday,sunday,start_date,end_date\n\
+         S,1,0,0,0,0,0,0,20240506,20240506\n",
+    ),
+    ("f/calendar_dates.txt", ""),
+    ("f/transfers.txt", ""),
+];
 
-fn numbers(alloc: Global, numbers: &[u64]) -> Result<List<u64>, Fail> {
-    Ok(List::from_vec(Vec::from_slice(alloc, numbers)?))
-}
+const OPTIONS: &str = "--zone Etc/UTC=UTC0 --from 20240506 --days 1";
 
-fn folder(alloc: Global, name: &str, fails: &[u64]) -> Result<MemoryFolder, Fail> {
-    let name = Text::from_str(alloc, name)?;
-    let bytes = List::from_vec(Vec::from_slice(alloc, STOP_TIMES.as_bytes())?);
+const COUNTS: &str = "stops=4 trips=3 runs=3 calls=7 passed=0\n";
+
+// The feed with another text in place of one file's; with no text the file isn't there.
+fn folder(alloc: Global, name: &str, text: &str, fails: &[u64]) -> Result<MemoryFolder, Fail> {
     let mut files = List::new(alloc);
-    files.push(FileEntry { name, bytes })?;
-    Ok(MemoryFolder::new(files, numbers(alloc, fails)?))
+    for (usual_name, usual_text) in FILES {
+        let bytes = if usual_name == name { text } else { usual_text };
+        if bytes != "" {
+            files.push(FileEntry {
+                name: Text::from_str(alloc, usual_name)?,
+                bytes: List::from_vec(Vec::from_slice(alloc, bytes.as_bytes())?),
+            })?;
+        }
+    }
+    let fails = List::from_vec(Vec::from_slice(alloc, fails)?);
+    Ok(MemoryFolder::new(files, fails))
 }
 
-fn words(alloc: Global, line: &str) -> Result<Vec<String>, Fail> {
+fn words(alloc: Global, line: &str, options: &str) -> Result<Vec<String>, Fail> {
     let mut words = Vec::new(alloc);
     for word in line.split(' ') {
+        words.push(String::from_str(alloc, word)?)?;
+    }
+    for word in options.split(' ') {
         words.push(String::from_str(alloc, word)?)?;
     }
     Ok(words)
 }
 
-/// Runs the words over the folder, and compares the status and what was written.
+// Runs a command over a folder and a sink that takes 7 bytes at a time, and compares the status and what was
+// written.
 fn expect(
     rt: &impl Abort,
     alloc: Global,
-    line: &str,
     folder: &mut MemoryFolder,
     write_fails: &[u64],
+    line: &str,
     status: Status,
     output: &str,
 ) -> Result<(), Fail> {
-    let mut out = MemorySink::new(List::new(alloc), numbers(alloc, write_fails)?, 7);
-    let words = words(alloc, line)?;
+    let fails = List::from_vec(Vec::from_slice(alloc, write_fails)?);
+    let mut out = MemorySink::new(List::new(alloc), fails, 7);
+    let words = words(alloc, line, OPTIONS)?;
     assert_eq!(rt;
         run_offline(alloc, &words, folder, &mut out),
         status,
@@ -56,84 +94,187 @@ fn expect(
 }
 
 #[test]
-fn plans_one_ride(rt: HostRuntime) -> Result<(), Fail> {
+fn checks(rt: HostRuntime) -> Result<(), Fail> {
     let alloc = rt.alloc();
-    for (line, status, output) in [
+    for (name, text, status, output) in [
+        ("", "", Status::Done, COUNTS),
         (
-            "plan f A D 28000 1800",
+            "f/stop_times.txt",
+            "trip_id,arrival_time,departure_time,stop_id,stop_sequence\n",
             Status::Done,
-            "28800 31200 1 300000 T1 1 3\n",
+            "stops=4 trips=0 runs=0 calls=0 passed=3\n",
         ),
         (
-            "plan f A D 28200 600",
-            Status::Done,
-            "28200 31200 1 360000 T3 1 2\n",
+            "f/stop_times.txt",
+            "trip_id,arrival_time,departure_time,stop_sequence\n",
+            Status::Feed,
+            "feed 2 stop_times.txt 0 stop_id\n",
+        ),
+        // A trip whose first call has no times, and one whose times fall.
+        (
+            "f/stop_times.txt",
+            "trip_id,arrival_time,departure_time,stop_id,stop_sequence\n\
+             T1,,,A,1\nT1,08:10:00,08:10:00,B,2\n",
+            Status::Feed,
+            "feed 10 stop_times.txt 1 arrival_time\n",
         ),
         (
-            "plan f A B 28000 1800",
-            Status::Done,
-            "28800 29400 1 120000 T1 1 2\n",
+            "f/stop_times.txt",
+            "trip_id,arrival_time,departure_time,stop_id,stop_sequence\n\
+             T1,08:00:00,08:00:00,A,1\nT1,07:59:59,07:59:59,B,2\n",
+            Status::Feed,
+            "feed 11 stop_times.txt 2 arrival_time\n",
         ),
-        ("plan f A Q 28000 1800", Status::Done, ""),
-        ("plan f Q A 28000 1800", Status::Done, ""),
-        // Two journeys of which neither is as good as the other in all four.
+        // A stop_sequence that stands twice in a trip.
         (
-            "plan f A D 28000 86400",
-            Status::Done,
-            "28800 31200 1 300000 T1 1 3\n",
+            "f/stop_times.txt",
+            "trip_id,arrival_time,departure_time,stop_id,stop_sequence\n\
+             T1,08:00:00,08:00:00,A,1\nT1,08:10:00,08:10:00,B,2\nT1,08:00:00,08:00:00,A,1\n",
+            Status::Feed,
+            "feed 7 stop_times.txt 3 stop_sequence\n",
         ),
         (
-            "plan f C D 0 86400",
-            Status::Done,
-            "30000 30600 1 120000 T2 1 2\n",
+            "f/trips.txt",
+            "route_id,service_id,trip_id\nR,S,T1\nR,S,T2\nQ,S,T3\n",
+            Status::Feed,
+            "feed 8 trips.txt 3 route_id\n",
         ),
-        ("plan g A D 28000 1800", Status::Feed, "feed\n"),
-        ("plan f A D 28000", Status::Words, "words\n"),
-        ("plans f A D 28000 1800", Status::Words, "words\n"),
-        ("plan f A -D 28000 1800", Status::Words, "words\n"),
-        ("plan f  D 28000 1800", Status::Words, "words\n"),
-        ("plan f A D 10000000000 1800", Status::Words, "words\n"),
         (
-            "plan f A D 0000000000000028000 1800",
-            Status::Words,
-            "words\n",
+            "f/calendar.txt",
+            "",
+            Status::Feed,
+            "feed 1 calendar.txt 0 -\n",
         ),
-        ("plan f A D 28000 0", Status::Words, "words\n"),
-        ("plan f A D 28000 86401", Status::Words, "words\n"),
-        ("plan f A D +28000 1800", Status::Words, "words\n"),
+        (
+            "f/agency.txt",
+            "agency_id,agency_timezone\nX,Europe/Berlin\n",
+            Status::Feed,
+            "feed 9 agency.txt 1 agency_timezone\n",
+        ),
     ] {
-        let mut folder = folder(alloc, "f/stop_times.txt", &[])?;
-        expect(&rt, alloc, line, &mut folder, &[], status, output)?;
+        let mut folder = folder(alloc, name, text, &[])?;
+        expect(&rt, alloc, &mut folder, &[], "check f", status, output)?;
     }
     Ok(())
 }
 
+const NOTHING: &str =
+    "{\"behind\":false,\"commit\":0,\"direct\":null,\"journeys\":[],\"more\":false,\"moved\":false,\"next\":null}\n";
+
+const FIRST_PAGE: &str = "{\"behind\":false,\"commit\":0,\"direct\":null,\"journeys\":[\
+    {\"arrival\":1714984200,\"cost\":341900,\"departure\":1714982400,\"legs\":[{\"kind\":\"walk\",\"seconds\":0},\
+    {\"alight\":{\"seq\":2,\"stop\":\"B\",\"time\":1714983000},\"board\":{\"seq\":1,\"stop\":\"A\",\"time\":1714982400},\
+    \"date\":\"20240506\",\"kind\":\"ride\",\"trip\":\"T1\"},{\"kind\":\"walk\",\"seconds\":419},\
+    {\"alight\":{\"seq\":2,\"stop\":\"D\",\"time\":1714984200},\"board\":{\"seq\":1,\"stop\":\"C\",\"time\":1714983600},\
+    \"date\":\"20240506\",\"kind\":\"ride\",\"trip\":\"T2\"},{\"kind\":\"walk\",\"seconds\":0}],\"rides\":2}],\
+    \"more\":true,\"moved\":false,\"next\":\"v1-0-1714982400-1714984200-2-341900\"}\n";
+
+const SECOND_PAGE: &str = "{\"behind\":false,\"commit\":0,\"direct\":null,\"journeys\":[\
+    {\"arrival\":1714984800,\"cost\":300000,\"departure\":1714982400,\"legs\":[{\"kind\":\"walk\",\"seconds\":0},\
+    {\"alight\":{\"seq\":3,\"stop\":\"D\",\"time\":1714984800},\"board\":{\"seq\":1,\"stop\":\"A\",\"time\":1714982400},\
+    \"date\":\"20240506\",\"kind\":\"ride\",\"trip\":\"T1\"},{\"kind\":\"walk\",\"seconds\":0}],\"rides\":1}],\
+    \"more\":false,\"moved\":false,\"next\":\"v1-0-1714982400-1714984800-1-300000\"}\n";
+
+const EARLIER_TRIP: &str = "{\"behind\":false,\"commit\":0,\"direct\":null,\"journeys\":[\
+    {\"arrival\":1714984800,\"cost\":360000,\"departure\":1714981800,\"legs\":[{\"kind\":\"walk\",\"seconds\":0},\
+    {\"alight\":{\"seq\":2,\"stop\":\"D\",\"time\":1714984800},\"board\":{\"seq\":1,\"stop\":\"A\",\"time\":1714981800},\
+    \"date\":\"20240506\",\"kind\":\"ride\",\"trip\":\"T3\"},{\"kind\":\"walk\",\"seconds\":0}],\"rides\":1}],\
+    \"more\":false,\"moved\":false,\"next\":\"v1-0-1714981800-1714984800-1-360000\"}\n";
+
 #[test]
-fn each_read_and_write_fails_once(rt: HostRuntime) -> Result<(), Fail> {
+fn plans(rt: HostRuntime) -> Result<(), Fail> {
     let alloc = rt.alloc();
-    let line = "plan f A D 28200 600";
-    for read in [1, 2] {
-        let mut folder = folder(alloc, "f/stop_times.txt", &[read])?;
-        expect(&rt, alloc, line, &mut folder, &[], Status::Read, "read\n")?;
-    }
-    // The line of 28 bytes takes four writes of at most 7 bytes.
-    for (write, front) in [
-        (1, ""),
-        (2, "28200 3"),
-        (3, "28200 31200 1 "),
-        (4, "28200 31200 1 360000 "),
+    for (line, status, output) in [
+        (
+            "plan f from=stop:A&to=stop:D&time=1714981600&window=1800&page=1",
+            Status::Done,
+            FIRST_PAGE,
+        ),
+        (
+            "plan f from=stop:A&to=stop:D&time=1714981600&window=1800&page=1&cursor=v1-0-1714982400-1714984200-2-341900",
+            Status::Done,
+            SECOND_PAGE,
+        ),
+        (
+            "plan f from=stop:A&to=stop:D&time=1714981600&window=1800&page=1&cursor=v1-0-1714982400-1714984800-1-300000",
+            Status::Done,
+            NOTHING,
+        ),
+        (
+            "plan f from=stop:A&to=stop:D&time=1714981600&window=1800&rides=1",
+            Status::Done,
+            SECOND_PAGE,
+        ),
+        (
+            "plan f from=stop:A&to=stop:D&time=1714981800&window=600",
+            Status::Done,
+            EARLIER_TRIP,
+        ),
+        (
+            "plan f from=stop:A&time=1714981600&window=1800",
+            Status::Request,
+            "request missing to\n",
+        ),
+        (
+            "plan f from=stop:A&to=stop:Q&time=1714981600",
+            Status::Request,
+            "request unknown to\n",
+        ),
+        (
+            "plan f from=stop:A&to=stop:D&time=1714981600&window=86401",
+            Status::Request,
+            "request bad window\n",
+        ),
+        (
+            "plan f from=stop:A&to=stop:D&time=1714981600&page=1&page=1",
+            Status::Request,
+            "request twice page\n",
+        ),
+        // A bad query over a bad feed; words that are no command.
+        ("plan g to=stop:D", Status::Feed, "feed 1 agency.txt 0 -\n"),
+        ("plan f", Status::Words, "words\n"),
+        ("check f f", Status::Words, "words\n"),
+        ("serve f", Status::Words, "words\n"),
     ] {
-        let mut folder = folder(alloc, "f/stop_times.txt", &[])?;
+        let mut folder = folder(alloc, "", "", &[])?;
+        expect(&rt, alloc, &mut folder, &[], line, status, output)?;
+    }
+    Ok(())
+}
+
+// The feed and the command once more for each file and each piece of the output, which fails.
+#[test]
+fn failures(rt: HostRuntime) -> Result<(), Fail> {
+    let alloc = rt.alloc();
+    for read in 1..=14u64 {
+        let mut folder = folder(alloc, "", "", &[read])?;
         expect(
             &rt,
             alloc,
-            line,
             &mut folder,
-            &[write],
-            Status::Write,
-            front,
+            &[],
+            "check f",
+            Status::Read,
+            "read\n",
         )?;
     }
-    let mut folder = folder(alloc, "g", &[])?;
-    expect(&rt, alloc, line, &mut folder, &[1], Status::Write, "")
+    for (write, output) in [
+        (1, ""),
+        (2, "stops=4"),
+        (6, "stops=4 trips=3 runs=3 calls=7 pass"),
+    ] {
+        let mut folder = folder(alloc, "", "", &[])?;
+        expect(
+            &rt,
+            alloc,
+            &mut folder,
+            &[write],
+            "check f",
+            Status::Write,
+            output,
+        )?;
+    }
+    // The line of a refusal can't be written.
+    let mut folder = folder(alloc, "", "", &[1])?;
+    expect(&rt, alloc, &mut folder, &[1], "check f", Status::Write, "")
 }

@@ -1,0 +1,75 @@
+-- What the commands write over a folder, and why one is not carried out.
+use Rattle.std.specs.Prelude.{◌≡◌, ℕ, List, length, IfSome, Option, Result, Ok, Err}
+use Rattle.command_words.specs.Commands.{Task}
+use Rattle.command_words.specs.Commands.Task.{check, plan}
+use Rattle.command_words.specs.Values.{Asked}
+use Rattle.feed_load.specs.declared.loading.Loaded.{Loaded}
+use Rattle.feed_load.specs.Loaded.{Loads}
+use Rattle.feed_load.specs.Runs.{call_count}
+use Rattle.gtfs_tables.specs.Feed.{tables_of}
+use Rattle.otp_base.specs.declared.folder.FileEntry.{FileEntry}
+use Rattle.otp_model.specs.declared.feed_fault.FeedFault.{FeedFault}
+use Rattle.otp_model.specs.declared.feed_fault.FeedFault.TheVariants as feed
+use Rattle.otp_model.specs.declared.options.Options.{Options}
+use Rattle.otp_server.specs.Lines.{counts_line}
+use Rattle.otp_server.specs.Reply.{IsPlanned, IsQueryFault}
+use Rattle.otp_server.specs.declared.refusal.Refusal.{Refusal}
+use Rattle.otp_server.specs.declared.refusal.Refusal.TheVariants as refusal
+
+-- this is what the files of the folder spell at a path, where the folder tells its files
+abbrev pub Spells : Option (List FileEntry) → List ℕ → Options → Result Loaded FeedFault → Type 0
+Spells files path options result = IfSome files (λ files. Loads options (tables_of path files) result)
+
+-- the line of counts of the feed
+abbrev pub counts_of : Loaded → List ℕ
+counts_of loaded =
+    counts_line (length loaded.feed.stops) (length loaded.feed.trips) (length loaded.feed.runs) (call_count loaded.feed.runs) loaded.passed
+
+-- what `check` writes
+pub record Checks (files : Option (List FileEntry)) (path : List ℕ) (options : Options) (text : List ℕ) : Type 0 where
+  pub loaded : Loaded
+  pub spelt : Spells files path options (Ok loaded)
+  pub text_is : text ≡ counts_of loaded
+
+-- what `plan` writes
+pub record Plans (files : Option (List FileEntry)) (path : List ℕ) (options : Options) (query text : List ℕ) : Type 0 where
+  pub loaded : Loaded
+  pub spelt : Spells files path options (Ok loaded)
+  pub planned : IsPlanned loaded.feed loaded.edges query text
+
+-- a fault of the feed; a failed read and want of memory say nothing of it
+abbrev pub IsFeedFault : Option (List FileEntry) → List ℕ → Options → Refusal → Type 0
+IsFeedFault files path options refusal.Words = ⊥
+IsFeedFault files path options (refusal.Feed cause file row column) = Spells files path options (Err (feed.At cause file row column))
+IsFeedFault files path options refusal.Read = Unit {0}
+IsFeedFault files path options (refusal.Request cause parameter) = ⊥
+IsFeedFault files path options refusal.Memory = Unit {0}
+
+-- a feed, and the query's fault over it
+pub record IsRefusedOver (files : Option (List FileEntry)) (path : List ℕ) (options : Options) (query : List ℕ) (why : Refusal) : Type 0 where
+  pub loaded : Loaded
+  pub spelt : Spells files path options (Ok loaded)
+  pub fault : IsQueryFault loaded.feed loaded.edges query why
+
+-- a fault of the feed, or else of the query
+abbrev pub IsPlanFault : Option (List FileEntry) → List ℕ → Options → List ℕ → Refusal → Type 0
+IsPlanFault files path options query refusal.Words = ⊥
+IsPlanFault files path options query (refusal.Feed cause file row column) = Spells files path options (Err (feed.At cause file row column))
+IsPlanFault files path options query refusal.Read = Unit {0}
+IsPlanFault files path options query (refusal.Request cause parameter) = IsRefusedOver files path options query (refusal.Request cause parameter)
+IsPlanFault files path options query refusal.Memory = Unit {0}
+
+-- the options that a task asks for
+abbrev pub asked_of : Task → Asked
+asked_of (check path asked) = asked
+asked_of (plan path query asked) = asked
+
+-- what a task writes
+abbrev pub Writes : Option (List FileEntry) → Task → Options → List ℕ → Type 0
+Writes files (check path asked) options text = Checks files path options text
+Writes files (plan path query asked) options text = Plans files path options query text
+
+-- why a task is not carried out
+abbrev pub Fails : Option (List FileEntry) → Task → Options → Refusal → Type 0
+Fails files (check path asked) options why = IsFeedFault files path options why
+Fails files (plan path query asked) options why = IsPlanFault files path options query why
