@@ -1,5 +1,5 @@
 -- What is answered and written, put together.
-use Rattle.std.proofs.Common.{◌≡◌, ◌⊎◌, inl, inr, ℕ, List, Option, Some, None, refl, subst, sym}
+use Rattle.std.proofs.Common.{◌≡◌, inl, inr, ℕ, List, Option, Some, None, refl, subst, sym}
 use Rattle.command_words.specs.Commands.{IsTask, Meets, Task, task_of}
 use Rattle.command_words.specs.Commands.Task.{check, plan}
 use Rattle.command_words.specs.declared.command.Command.TheVariants as commands

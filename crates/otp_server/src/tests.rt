@@ -39,19 +39,31 @@ const FILES: [(&str, &str); 8] = [
     ("f/transfers.txt", ""),
 ];
 
-const OPTIONS: &str = "--zone Etc/UTC=UTC0 --from 20240506 --days 1";
+// Seven days, of which trips run on the first.
+const OPTIONS: &str = "--zone Etc/UTC=UTC0 --from 20240506";
 
 const COUNTS: &str = "stops=4 trips=3 runs=3 calls=7 passed=0\n";
 
-// The feed with another text in place of one file's; with no text the file isn't there.
-fn folder(alloc: Global, name: &str, text: &str, fails: &[u64]) -> Result<MemoryFolder, Fail> {
+// The text of a file: the last of the changes to it, or the usual one.
+fn text_of<'a>(changes: &[(&str, &'a str)], name: &str, usual: &'a str) -> &'a str {
+    let mut text = usual;
+    for (changed, other) in changes {
+        if *changed == name {
+            text = other;
+        }
+    }
+    text
+}
+
+// The feed with these changes; a file without a text isn't there.
+fn folder(alloc: Global, changes: &[(&str, &str)], fails: &[u64]) -> Result<MemoryFolder, Fail> {
     let mut files = List::new(alloc);
-    for (usual_name, usual_text) in FILES {
-        let bytes = if usual_name == name { text } else { usual_text };
-        if bytes != "" {
+    for (name, usual) in FILES {
+        let text = text_of(changes, name, usual);
+        if text != "" {
             files.push(FileEntry {
-                name: Text::from_str(alloc, usual_name)?,
-                bytes: List::from_vec(Vec::from_slice(alloc, bytes.as_bytes())?),
+                name: Text::from_str(alloc, name)?,
+                bytes: List::from_vec(Vec::from_slice(alloc, text.as_bytes())?),
             })?;
         }
     }
@@ -152,7 +164,7 @@ fn checks(rt: HostRuntime) -> Result<(), Fail> {
             "feed 9 agency.txt 1 agency_timezone\n",
         ),
     ] {
-        let mut folder = folder(alloc, name, text, &[])?;
+        let mut folder = folder(alloc, &[(name, text)], &[])?;
         expect(&rt, alloc, &mut folder, &[], "check f", status, output)?;
     }
     Ok(())
@@ -236,10 +248,119 @@ fn plans(rt: HostRuntime) -> Result<(), Fail> {
         ("check f f", Status::Words, "words\n"),
         ("serve f", Status::Words, "words\n"),
     ] {
-        let mut folder = folder(alloc, "", "", &[])?;
+        let mut folder = folder(alloc, &[], &[])?;
         expect(&rt, alloc, &mut folder, &[], line, status, output)?;
     }
     Ok(())
+}
+
+const BOTH: &str = "{\"behind\":false,\"commit\":0,\"direct\":null,\"journeys\":[\
+    {\"arrival\":1714984200,\"cost\":341900,\"departure\":1714982400,\"legs\":[\
+    {\"kind\":\"walk\",\"seconds\":0},\
+    {\"alight\":{\"seq\":2,\"stop\":\"B\",\"time\":1714983000},\"board\":{\"seq\":1,\"stop\":\"A\",\"time\":1714982400},\"date\":\"20240506\",\"kind\":\"ride\",\"trip\":\"T1\"},\
+    {\"kind\":\"walk\",\"seconds\":419},\
+    {\"alight\":{\"seq\":2,\"stop\":\"D\",\"time\":1714984200},\"board\":{\"seq\":1,\"stop\":\"C\",\"time\":1714983600},\"date\":\"20240506\",\"kind\":\"ride\",\"trip\":\"T2\"},\
+    {\"kind\":\"walk\",\"seconds\":0}\
+    ],\"rides\":2},\
+    {\"arrival\":1714984800,\"cost\":300000,\"departure\":1714982400,\"legs\":[\
+    {\"kind\":\"walk\",\"seconds\":0},\
+    {\"alight\":{\"seq\":3,\"stop\":\"D\",\"time\":1714984800},\"board\":{\"seq\":1,\"stop\":\"A\",\"time\":1714982400},\"date\":\"20240506\",\"kind\":\"ride\",\"trip\":\"T1\"},\
+    {\"kind\":\"walk\",\"seconds\":0}\
+    ],\"rides\":1}\
+    ],\"more\":false,\"moved\":false,\"next\":\"v1-0-1714982400-1714984800-1-300000\"}\n";
+
+const FROM_A_POINT: &str = "{\"behind\":false,\"commit\":0,\"direct\":null,\"journeys\":[\
+    {\"arrival\":1714984200,\"cost\":408900,\"departure\":1714982065,\"legs\":[\
+    {\"kind\":\"walk\",\"seconds\":335},\
+    {\"alight\":{\"seq\":2,\"stop\":\"B\",\"time\":1714983000},\"board\":{\"seq\":1,\"stop\":\"A\",\"time\":1714982400},\"date\":\"20240506\",\"kind\":\"ride\",\"trip\":\"T1\"},\
+    {\"kind\":\"walk\",\"seconds\":419},\
+    {\"alight\":{\"seq\":2,\"stop\":\"D\",\"time\":1714984200},\"board\":{\"seq\":1,\"stop\":\"C\",\"time\":1714983600},\"date\":\"20240506\",\"kind\":\"ride\",\"trip\":\"T2\"},\
+    {\"kind\":\"walk\",\"seconds\":0}\
+    ],\"rides\":2},\
+    {\"arrival\":1714984800,\"cost\":367000,\"departure\":1714982065,\"legs\":[\
+    {\"kind\":\"walk\",\"seconds\":335},\
+    {\"alight\":{\"seq\":3,\"stop\":\"D\",\"time\":1714984800},\"board\":{\"seq\":1,\"stop\":\"A\",\"time\":1714982400},\"date\":\"20240506\",\"kind\":\"ride\",\"trip\":\"T1\"},\
+    {\"kind\":\"walk\",\"seconds\":0}\
+    ],\"rides\":1}\
+    ],\"more\":false,\"moved\":false,\"next\":\"v1-0-1714982065-1714984800-1-367000\"}\n";
+
+const AFTER_MIDNIGHT: &str = "{\"behind\":false,\"commit\":0,\"direct\":null,\"journeys\":[\
+    {\"arrival\":1715041200,\"cost\":120000,\"departure\":1715040600,\"legs\":[\
+    {\"kind\":\"walk\",\"seconds\":0},\
+    {\"alight\":{\"seq\":2,\"stop\":\"B\",\"time\":1715041200},\"board\":{\"seq\":1,\"stop\":\"A\",\"time\":1715040600},\"date\":\"20240506\",\"kind\":\"ride\",\"trip\":\"T9\"},\
+    {\"kind\":\"walk\",\"seconds\":0}\
+    ],\"rides\":1}\
+    ],\"more\":false,\"moved\":false,\"next\":\"v1-0-1715040600-1715041200-1-120000\"}\n";
+
+const BETWEEN_TIMES: &str = "{\"behind\":false,\"commit\":0,\"direct\":null,\"journeys\":[\
+    {\"arrival\":1714983600,\"cost\":180000,\"departure\":1714982400,\"legs\":[\
+    {\"kind\":\"walk\",\"seconds\":0},\
+    {\"alight\":{\"seq\":2,\"stop\":\"B\",\"time\":1714983600},\"board\":{\"seq\":1,\"stop\":\"A\",\"time\":1714982400},\"date\":\"20240506\",\"kind\":\"ride\",\"trip\":\"T1\"},\
+    {\"kind\":\"walk\",\"seconds\":0}\
+    ],\"rides\":1}\
+    ],\"more\":false,\"moved\":false,\"next\":\"v1-0-1714982400-1714983600-1-180000\"}\n";
+
+// Other feeds, each with a journey or two: with a least time of the change, with a trip after midnight, and with a
+// call whose times stand between two others.
+#[test]
+fn plans_over_other_feeds(rt: HostRuntime) -> Result<(), Fail> {
+    let alloc = rt.alloc();
+    for (name, text, line, output) in [
+        (
+            "",
+            "",
+            "plan f from=stop:A&to=stop:D&time=1714981600&window=1800",
+            BOTH,
+        ),
+        (
+            "",
+            "",
+            "plan f from=at:0,0.004&to=stop:D&time=1714981600&window=1800",
+            FROM_A_POINT,
+        ),
+        (
+            "f/transfers.txt",
+            "from_stop_id,to_stop_id,transfer_type,min_transfer_time\nB,C,2,600\n",
+            "plan f from=stop:A&to=stop:D&time=1714981600&window=1800",
+            BOTH,
+        ),
+        (
+            "f/transfers.txt",
+            "from_stop_id,to_stop_id,transfer_type,min_transfer_time\nB,C,2,601\n",
+            "plan f from=stop:A&to=stop:D&time=1714981600&window=1800",
+            SECOND_PAGE,
+        ),
+        (
+            "f/stop_times.txt",
+            "trip_id,arrival_time,departure_time,stop_id,stop_sequence\n\
+             T1,08:00:00,08:00:00,A,1\nT1,,,B,2\nT1,08:40:00,08:40:00,D,3\n",
+            "plan f from=stop:A&to=stop:B&time=1714981600&window=1800",
+            BETWEEN_TIMES,
+        ),
+        ("", "", "check --days 2 f", COUNTS),
+    ] {
+        let mut folder = folder(alloc, &[(name, text)], &[])?;
+        expect(&rt, alloc, &mut folder, &[], line, Status::Done, output)?;
+    }
+    let night = [
+        ("f/trips.txt", "route_id,service_id,trip_id\nR,S,T9\n"),
+        (
+            "f/stop_times.txt",
+            "trip_id,arrival_time,departure_time,stop_id,stop_sequence\n\
+             T9,24:10:00,24:10:00,A,1\nT9,24:20:00,24:20:00,B,2\n",
+        ),
+    ];
+    let mut folder = folder(alloc, &night, &[])?;
+    let line = "plan f --days 2 from=stop:A&to=stop:B&time=1715040000&window=1800";
+    expect(
+        &rt,
+        alloc,
+        &mut folder,
+        &[],
+        line,
+        Status::Done,
+        AFTER_MIDNIGHT,
+    )
 }
 
 // The feed and the command once more for each file and each piece of the output, which fails.
@@ -247,7 +368,7 @@ fn plans(rt: HostRuntime) -> Result<(), Fail> {
 fn failures(rt: HostRuntime) -> Result<(), Fail> {
     let alloc = rt.alloc();
     for read in 1..=14u64 {
-        let mut folder = folder(alloc, "", "", &[read])?;
+        let mut folder = folder(alloc, &[], &[read])?;
         expect(
             &rt,
             alloc,
@@ -263,7 +384,7 @@ fn failures(rt: HostRuntime) -> Result<(), Fail> {
         (2, "stops=4"),
         (6, "stops=4 trips=3 runs=3 calls=7 pass"),
     ] {
-        let mut folder = folder(alloc, "", "", &[])?;
+        let mut folder = folder(alloc, &[], &[])?;
         expect(
             &rt,
             alloc,
@@ -275,6 +396,6 @@ fn failures(rt: HostRuntime) -> Result<(), Fail> {
         )?;
     }
     // The line of a refusal can't be written.
-    let mut folder = folder(alloc, "", "", &[1])?;
+    let mut folder = folder(alloc, &[], &[1])?;
     expect(&rt, alloc, &mut folder, &[1], "check f", Status::Write, "")
 }

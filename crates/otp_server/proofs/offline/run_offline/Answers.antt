@@ -13,7 +13,7 @@ pub returns-in-Ok-line-clause-answers : goal.returns-in-Ok-line-clause-answers
 returns-in-Ok-line-clause-answers g c =
     told_answers (g.F.Folder.files c.args.folder.now) (map string_bytes c.args.words.now) _ _ _ _ c.as_bytes.result.now c.status.result _
     (told (g.F.Folder.files c.args.folder.now) (map string_bytes c.args.words.now) c.in-Err.refusal c.status.result c.as_bytes.result.now
-      c.in-Err.ensures.refused c.status.ensures (c.as_bytes.ensures.value ∙ c.in-Ok-line.ensures))
+    c.in-Err.ensures.refused c.status.ensures (c.as_bytes.ensures.value ∙ c.in-Ok-line.ensures))
     c.finish-in-Ok-line.ensures.finishes
 
 pub returns-clause-answers : goal.returns-clause-answers
