@@ -1,5 +1,5 @@
 -- What words ask for, from what was read of them.
-use Rattle.std.proofs.Common.{◌≡◌, ◌<◌, ◌≤◌, ℕ, true, false, List, [], ◌∷◌, Option, Some, None, Bor, length, map, get_or, codes, refl, arith}
+use Rattle.std.proofs.Common.{◌≡◌, ◌<◌, ◌≤◌, ℕ, true, false, List, [], ◌∷◌, Some, None, Bor, length, map, get_or, codes, refl, arith}
 use Rattle.std.specs.Str.{bytes_eq}
 use Rattle.otp_model.specs.declared.options.Options.{Options}
 use Rattle.command_words.specs.Commands.{IsTask, Meets, task_of, task_on, texts_in}
@@ -10,6 +10,10 @@ use Rattle.command_words.specs.declared.command.Command.TheVariants as commands
 pub task-read : (words rest : List (List ℕ)) (name : List ℕ) (positionals : List (List ℕ)) (texts : Texts) (asked : Asked) → words ≡ name ∷ rest
     → positionals_of rest ≡ Some positionals → texts_in rest ≡ Some texts → options_in texts ≡ Some asked → task_of words ≡ task_on name positionals asked
 task-read words rest name positionals texts asked w p t a = rw (w, p, t, a) refl
+
+pub task-none : (words rest : List (List ℕ)) (name : List ℕ) (positionals : List (List ℕ)) (texts : Texts) → words ≡ name ∷ rest
+    → positionals_of rest ≡ Some positionals → texts_in rest ≡ Some texts → options_in texts ≡ None → task_of words ≡ None
+task-none words rest name positionals texts w p t a = rw (w, p, t, a) refl
 
 pub check-task : (name text : List ℕ) (on : List (Bor (List ℕ))) (d : Bor (List ℕ)) (asked : Asked) (options : Options) → text ≡ name → 1 ≤ length on → length on < 2
     → bytes_eq text (codes "check") ≡ true → AreAsked asked options

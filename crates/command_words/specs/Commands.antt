@@ -1,5 +1,5 @@
 -- The commands that words are.
-use Rattle.std.specs.Prelude.{◌≡◌, ℕ, List, [], ◌∷◌, Option, Some, None, Result, Ok, Err, ◌&&◌, if◌then◌else◌, codes}
+use Rattle.std.specs.Prelude.{◌≡◌, ℕ, List, [], ◌∷◌, Option, Some, None, Result, Ok, Err, if◌then◌else◌, codes}
 use Rattle.std.specs.Str.{bytes_eq}
 use Rattle.otp_model.specs.Ranges.{AreOptionsInRange}
 use Rattle.command_words.specs.Words.{positionals_of, value_of}

@@ -1,5 +1,5 @@
 -- What the texts of the options stand for.
-use Rattle.std.specs.Prelude.{◌≡◌, ℕ, ◌+◌, List, length, Option, Some, None, ℤ, pos, int_le, ◌≤◌, ◌≤ℤ◌, nat_lt, ◌==◌, ◌&&◌, if◌then◌else◌, is_some}
+use Rattle.std.specs.Prelude.{◌≡◌, ℕ, List, length, Option, Some, None, ℤ, pos, int_le, ◌≤◌, ◌≤ℤ◌, nat_lt, ◌==◌, ◌&&◌, if◌then◌else◌, is_some}
 use Rattle.std.specs.List.{after_first, before_first, position_or_len}
 use Rattle.jiff.specs.Placed.{IsPosixZone}
 use Rattle.jiff.specs.ZoneView.{plain_zone}

@@ -1,7 +1,7 @@
 -- The rules for the words behind a command's name. A word that begins with '-' names an option, and the next
 -- word is its value; every other word is positional. Words are lists of bytes.
 use Rattle.std.specs.Prelude.{ℕ, List, [], ◌∷◌, Option, Some, None, Bool, false, not, ◌==◌, ◌&&◌, nat_le, if◌then◌else◌, codes, option_map, slice_get}
-use Rattle.std.specs.List.{count_by, list_all, list_any}
+use Rattle.std.specs.List.{count_by, list_any}
 use Rattle.std.specs.Str.{bytes_eq}
 
 -- the options of `check` and `plan`

@@ -1,6 +1,6 @@
-use Rattle.std.proofs.Common.{rules, ◌≡◌, ◌∙◌}
+use Rattle.std.proofs.Common.{rules, ◌∙◌}
 use Rattle.command_words.proofs.GivesFacts.{meets-none, meets-some}
-use Rattle.command_words.specs.Values.{AreRead, AreAsked}
+use Rattle.command_words.specs.Values.{AreRead}
 use Rattle.command_words.proofs.values.options_of.Goals as goal
 
 pub returns-in_default-clause-reads : goal.returns-in_default-clause-reads
