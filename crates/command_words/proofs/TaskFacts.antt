@@ -11,6 +11,10 @@ pub task-read : (words rest : List (List ℕ)) (name : List ℕ) (positionals : 
     → positionals_of rest ≡ Some positionals → texts_in rest ≡ Some texts → options_in texts ≡ Some asked → task_of words ≡ task_on name positionals asked
 task-read words rest name positionals texts asked w p t a = rw (w, p, t, a) refl
 
+pub task-none : (words rest : List (List ℕ)) (name : List ℕ) (positionals : List (List ℕ)) (texts : Texts) → words ≡ name ∷ rest
+    → positionals_of rest ≡ Some positionals → texts_in rest ≡ Some texts → options_in texts ≡ None → task_of words ≡ None
+task-none words rest name positionals texts w p t a = rw (w, p, t, a) refl
+
 pub check-task : (name text : List ℕ) (on : List (Bor (List ℕ))) (d : Bor (List ℕ)) (asked : Asked) (options : Options) → text ≡ name → 1 ≤ length on → length on < 2
     → bytes_eq text (codes "check") ≡ true → AreAsked asked options
     → Meets IsTask (task_on name (map (λ word. word.now) on) asked) (Some (commands.Check (get_or on 0 d) options))

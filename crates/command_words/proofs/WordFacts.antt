@@ -1,38 +1,9 @@
 -- The rules for words, one word at a time.
-use Rattle.std.proofs.Common.{◌≡◌, ◌∙◌, ◌++◌, ◌&&◌, ℕ, Bool, true, false, List, [], ◌∷◌, Option, Some, None, option_map, slice_get, cond, refl, sym, ap, append_assoc}
-use Rattle.std.proofs.lemmas.List.{append-nil}
-use Rattle.std.specs.Str.{bytes_eq}
+use Rattle.std.proofs.Common.{◌≡◌, ◌∙◌, ◌&&◌, ℕ, Bool, true, false, List, [], ◌∷◌, Option, Some, None, option_map, is_some, cond, refl, sym, ap}
 use Rattle.command_words.specs.Values.{◌>>=◌}
-use Rattle.command_words.specs.Words.{behind_option, is_option, is_plain, positionals_of, value_of}
+use Rattle.command_words.specs.Words.{behind_option, is_option, is_plain, positionals_of}
 
-pub value-none : (name : List ℕ) → None ≡ value_of name []
-unfolding value_of
-value-none name = refl
-
-pub value-here : (name word text : List ℕ) (words rest : List (List ℕ)) → words ≡ word ∷ rest → text ≡ word → bytes_eq text name ≡ true
-    → value_of name words ≡ slice_get rest 0
-unfolding value_of
-value-here name word text words rest e t same =
-    let s : bytes_eq word name ≡ true = rw (← t) same in
-    rw (e, s) refl
-
-pub value-further : (name word text : List ℕ) (words rest : List (List ℕ)) → words ≡ word ∷ rest → text ≡ word → bytes_eq text name ≡ false
-    → value_of name words ≡ value_of name rest
-unfolding value_of
-value-further name word text words rest e t same =
-    let s : bytes_eq word name ≡ false = rw (← t) same in
-    rw (e, s) refl
-
--- with what was met put before
-abbrev pub and_then : List (List ℕ) → Option (List (List ℕ)) → Option (List (List ℕ))
-and_then met = option_map (λ more. met ++ more)
-
-and_then-more : (met : List (List ℕ)) (word : List ℕ) (left : Option (List (List ℕ)))
-    → and_then met (option_map (λ xs. word ∷ xs) left) ≡ and_then (met ++ word ∷ []) left
-and_then-more met word None = refl
-and_then-more met word (Some xs) = ap Some (sym (append_assoc met (word ∷ []) xs))
-
-plain-first : (word : List ℕ) (rest : List (List ℕ)) → is_plain word ≡ true → positionals_of (word ∷ rest) ≡ option_map (λ xs. word ∷ xs) (positionals_of rest)
+pub plain-first : (word : List ℕ) (rest : List (List ℕ)) → is_plain word ≡ true → positionals_of (word ∷ rest) ≡ option_map (λ xs. word ∷ xs) (positionals_of rest)
 unfolding positionals_of
 plain-first word [] p = rw p refl
 plain-first word (next ∷ rest) p = rw p refl
@@ -46,29 +17,23 @@ option-first word (value ∷ rest) p = rw p (go (is_option word && is_plain valu
     go true = refl
     go false = refl
 
-pub positionals-plain : (all words rest met : List (List ℕ)) (word text : List ℕ) → positionals_of all ≡ and_then met (positionals_of words)
-    → words ≡ word ∷ rest → text ≡ word → is_plain text ≡ true → positionals_of all ≡ and_then (met ++ word ∷ []) (positionals_of rest)
-positionals-plain all words rest met word text so_far e t p =
+mapped : (word : List ℕ) (o : Option (List (List ℕ))) → is_some (option_map (λ xs. word ∷ xs) o) ≡ is_some o
+mapped word None = refl
+mapped word (Some xs) = refl
+
+pub form-plain : (words rest : List (List ℕ)) (word text : List ℕ) → words ≡ word ∷ rest → text ≡ word → is_plain text ≡ true
+    → is_some (positionals_of words) ≡ is_some (positionals_of rest)
+form-plain words rest word text e t p =
     let plain : is_plain word ≡ true = rw (← t) p in
-    so_far ∙ ap (λ ws. and_then met (positionals_of ws)) e ∙ ap (and_then met) (plain-first word rest plain) ∙ and_then-more met word (positionals_of rest)
+    ap (λ ws. is_some (positionals_of ws)) e ∙ ap is_some (plain-first word rest plain) ∙ mapped word (positionals_of rest)
 
-pub positionals-option : (all words rest behind met : List (List ℕ)) (word text : List ℕ) → positionals_of all ≡ and_then met (positionals_of words)
-    → words ≡ word ∷ rest → text ≡ word → is_plain text ≡ false → behind_option text rest ≡ Some behind
-    → positionals_of all ≡ and_then met (positionals_of behind)
-positionals-option all words rest behind met word text so_far e t p b =
+pub form-option : (words rest : List (List ℕ)) (word text : List ℕ) (behind : Option (List (List ℕ))) → words ≡ word ∷ rest → text ≡ word → is_plain text ≡ false
+    → behind ≡ behind_option text rest → is_some (positionals_of words) ≡ is_some (behind >>= positionals_of)
+form-option words rest word text behind e t p b =
     let plain : is_plain word ≡ false = rw (← t) p in
-    let is : behind_option word rest ≡ Some behind = rw (← t) b in
-    so_far ∙ ap (λ ws. and_then met (positionals_of ws)) e ∙ ap (and_then met) (option-first word rest plain)
-    ∙ ap (λ o. and_then met (o >>= positionals_of)) is
+    let is : behind ≡ behind_option word rest = rw (← t) b in
+    ap (λ ws. is_some (positionals_of ws)) e ∙ ap is_some (option-first word rest plain) ∙ ap (λ o. is_some (o >>= positionals_of)) (sym is)
 
-pub positionals-fault : (all words rest met : List (List ℕ)) (word text : List ℕ) → positionals_of all ≡ and_then met (positionals_of words)
-    → words ≡ word ∷ rest → text ≡ word → is_plain text ≡ false → behind_option text rest ≡ None → positionals_of all ≡ None
-positionals-fault all words rest met word text so_far e t p b =
-    let plain : is_plain word ≡ false = rw (← t) p in
-    let is : behind_option word rest ≡ None = rw (← t) b in
-    so_far ∙ ap (λ ws. and_then met (positionals_of ws)) e ∙ ap (and_then met) (option-first word rest plain)
-    ∙ ap (λ o. and_then met (o >>= positionals_of)) is
-
-pub positionals-end : (all met : List (List ℕ)) → positionals_of all ≡ and_then met (positionals_of []) → positionals_of all ≡ Some met
+pub form-end : true ≡ is_some (positionals_of [])
 unfolding positionals_of
-positionals-end all met so_far = so_far ∙ ap Some (append-nil met)
+form-end = refl

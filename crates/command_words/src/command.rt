@@ -1,12 +1,13 @@
 ghost use Rattle.std.specs.Prelude.{◌≡◌, IfOk, map, string_bytes};
 ghost use Rattle.command_words.specs.Commands.{Gives, HasRanges, IsTask, task_of};
 
-use crate::texts::texts_in;
+use crate::app::matches_in;
+use crate::texts::{are_once, texts_in};
 use crate::values::options_of;
-use crate::words::positionals_of;
+use crate::words::has_form;
 use otp_base::Memory;
 use otp_model::Options;
-use std::alloc::{AllocFailed, Global};
+use std::alloc::{AllocError, AllocFailed, Global};
 
 /// What the words ask for.
 #[derive(Debug, Drop)]
@@ -43,6 +44,16 @@ impl From<Memory> for WordsFault {
     }
 }
 
+impl From<AllocError> for WordsFault {
+    ghost use Rattle.command_words.specs.declared.command.WordsFault.TheVariants as faults;
+
+    ghost from_gives = { λ _ e. e ≡ faults.Memory };
+
+    fn from(_error: AllocError) -> WordsFault {
+        WordsFault::Memory
+    }
+}
+
 impl<T: Drop> From<AllocFailed<T>> for WordsFault {
     ghost use Rattle.command_words.specs.declared.command.WordsFault.TheVariants as faults;
 
@@ -64,15 +75,19 @@ pub fn read_words(alloc: Global, words: &[String]) -> Result<Command<'_>, WordsF
     ensures reads { Gives IsTask (task_of (map string_bytes words.now)) result }
     ensures ranges { IfOk result HasRanges }
 {
-    let Some((name, words)) = words.split_first() else {
+    let Some((name, behind)) = words.split_first() else {
         return Err(WordsFault::Words);
     };
-    let positionals = positionals_of(alloc, words)?;
-    let Some(texts) = texts_in(words) else {
+    if !has_form(behind) || !are_once(behind) {
         return Err(WordsFault::Words);
-    };
+    }
+    let matches = matches_in(alloc, words)?;
+    let texts = texts_in(&matches);
     let options = options_of(alloc, &texts)?;
-    match positionals.as_slice() {
+    let Some(positionals) = matches.get_strs("words") else {
+        return Err(WordsFault::Words);
+    };
+    match positionals {
         [folder] if name.as_str() == "check" => Ok(Command::Check { folder, options }),
         [folder, query] if name.as_str() == "plan" => Ok(Command::Plan {
             folder,

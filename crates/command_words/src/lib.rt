@@ -2,6 +2,7 @@
 //! which options.
 #![tactic(auto)]
 
+mod app;
 mod command;
 mod texts;
 mod values;

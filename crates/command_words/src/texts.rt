@@ -1,8 +1,10 @@
-ghost use Rattle.std.specs.Prelude.{◌≡◌, map, option_map, string_bytes};
-ghost use Rattle.command_words.specs.Commands.{texts_in};
+ghost use Rattle.std.specs.Prelude.{◌≡◌, map, string_bytes};
+ghost use Rattle.clap.specs.Words.{found_of, rows_of};
+ghost use Rattle.command_words.specs.App.{found_texts};
 ghost use Rattle.command_words.specs.Texts.{are_once, texts_of};
 
-use crate::words::{is_once, value_of};
+use crate::words::is_once;
+use clap::ArgMatches;
 
 /// The texts of the options that are given.
 #[derive(Clone, Copy, Debug)]
@@ -16,26 +18,23 @@ pub struct OptionTexts<'a> {
     pub scale: Option<&'a str>,
 }
 
-/// The texts of the options among the words, if each stands at most once.
-pub fn texts_in(words: &[String]) -> Option<OptionTexts<'_>>
-    ensures { option_map texts_of result ≡ texts_in (map string_bytes words.now) }
+/// The texts of the options that clap found.
+pub fn texts_in<'a>(matches: &ArgMatches<'a>) -> OptionTexts<'a>
+    ensures { texts_of result ≡ found_texts (rows_of (found_of matches.now)) }
 {
-    if !are_once(words) {
-        return None;
+    OptionTexts {
+        zone: matches.get_str("zone"),
+        from: matches.get_str("from"),
+        days: matches.get_str("days"),
+        feeds: matches.get_str("feeds"),
+        speed: matches.get_str("speed"),
+        reach: matches.get_str("reach"),
+        scale: matches.get_str("scale"),
     }
-    Some(OptionTexts {
-        zone: value_of(words, "--zone"),
-        from: value_of(words, "--from"),
-        days: value_of(words, "--days"),
-        feeds: value_of(words, "--feeds"),
-        speed: value_of(words, "--speed"),
-        reach: value_of(words, "--reach"),
-        scale: value_of(words, "--scale"),
-    })
 }
 
 /// Whether each option stands at most once.
-fn are_once(words: &[String]) -> bool
+pub fn are_once(words: &[String]) -> bool
     ensures { result ≡ are_once (map string_bytes words.now) }
 {
     is_once(words, "--zone")

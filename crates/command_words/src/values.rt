@@ -18,7 +18,7 @@ pub struct NamedZone<'a> {
     pub zone: Zone,
 }
 
-/// The values of the options, the zone's name still in the words.
+/// The options that texts spell, still without a name of their own.
 #[derive(Clone, Copy, Debug)]
 pub struct Values<'a> {
     pub zone: NamedZone<'a>,
