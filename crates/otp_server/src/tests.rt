@@ -110,6 +110,13 @@ fn checks(rt: HostRuntime) -> Result<(), Fail> {
     let alloc = rt.alloc();
     for (name, text, status, output) in [
         ("", "", Status::Done, COUNTS),
+        // A byte order mark, and a field in quotes.
+        (
+            "f/stops.txt",
+            "\u{feff}stop_id,stop_name,stop_lat,stop_lon\n\"A\",A,0.0,0.0\nB,B,0.1,0.0\nC,C,0.1,0.005\nD,D,0.3,0.0\n",
+            Status::Done,
+            COUNTS,
+        ),
         (
             "f/stop_times.txt",
             "trip_id,arrival_time,departure_time,stop_id,stop_sequence\n",
@@ -141,9 +148,11 @@ fn checks(rt: HostRuntime) -> Result<(), Fail> {
         (
             "f/stop_times.txt",
             "trip_id,arrival_time,departure_time,stop_id,stop_sequence\n\
-             T1,08:00:00,08:00:00,A,1\nT1,08:10:00,08:10:00,B,2\nT1,08:00:00,08:00:00,A,1\n",
+             T1,08:00:00,08:00:00,A,1\nT1,08:10:00,08:10:00,B,2\nT1,08:40:00,08:40:00,D,3\n\
+             T2,08:20:00,08:20:00,C,1\nT2,08:30:00,08:30:00,D,2\n\
+             T3,7:50:00,7:50:00,A,1\nT3,08:40:00,08:40:00,D,2\nT1,08:00:00,08:00:00,A,1\n",
             Status::Feed,
-            "feed 7 stop_times.txt 3 stop_sequence\n",
+            "feed 7 stop_times.txt 8 stop_sequence\n",
         ),
         (
             "f/trips.txt",
@@ -300,10 +309,10 @@ const BETWEEN_TIMES: &str = "{\"behind\":false,\"commit\":0,\"direct\":null,\"jo
     ],\"rides\":1}\
     ],\"more\":false,\"moved\":false,\"next\":\"v1-0-1714982400-1714983600-1-180000\"}\n";
 
-// Other feeds, each with a journey or two: with a least time of the change, with a trip after midnight, and with a
-// call whose times stand between two others.
+// The feed with one file changed: with a least time of the change, with a call whose times stand between two others,
+// and without trips.
 #[test]
-fn plans_over_other_feeds(rt: HostRuntime) -> Result<(), Fail> {
+fn plans_over_changed_feeds(rt: HostRuntime) -> Result<(), Fail> {
     let alloc = rt.alloc();
     for (name, text, line, output) in [
         (
@@ -337,30 +346,65 @@ fn plans_over_other_feeds(rt: HostRuntime) -> Result<(), Fail> {
             "plan f from=stop:A&to=stop:B&time=1714981600&window=1800",
             BETWEEN_TIMES,
         ),
+        (
+            "f/stop_times.txt",
+            "trip_id,arrival_time,departure_time,stop_id,stop_sequence\n",
+            "plan f from=stop:A&to=stop:D&time=1714981600&window=1800",
+            NOTHING,
+        ),
         ("", "", "check --days 2 f", COUNTS),
     ] {
         let mut folder = folder(alloc, &[(name, text)], &[])?;
         expect(&rt, alloc, &mut folder, &[], line, Status::Done, output)?;
     }
-    let night = [
-        ("f/trips.txt", "route_id,service_id,trip_id\nR,S,T9\n"),
+    Ok(())
+}
+
+const WITHOUT_A_CHANGE_ON_FOOT: &str =
+    "{\"behind\":false,\"commit\":0,\"direct\":null,\"journeys\":[\
+    {\"arrival\":1714992000,\"cost\":360000,\"departure\":1714989600,\"legs\":[\
+    {\"kind\":\"walk\",\"seconds\":0},\
+    {\"alight\":{\"seq\":2,\"stop\":\"X\",\"time\":1714991238},\"board\":{\"seq\":1,\"stop\":\"E\",\"time\":1714989600},\"date\":\"20240506\",\"kind\":\"ride\",\"trip\":\"V2\"},\
+    {\"kind\":\"walk\",\"seconds\":0},\
+    {\"alight\":{\"seq\":2,\"stop\":\"D\",\"time\":1714992000},\"board\":{\"seq\":1,\"stop\":\"X\",\"time\":1714991400},\"date\":\"20240506\",\"kind\":\"ride\",\"trip\":\"V3\"},\
+    {\"kind\":\"walk\",\"seconds\":0}\
+    ],\"rides\":2}\
+    ],\"more\":false,\"moved\":false,\"next\":\"v1-0-1714989600-1714992000-2-360000\"}\n";
+
+// Other timetables: a trip after midnight, on the second day of two; and a stop that a walk reaches earlier than a
+// ride, at the same cost before the next boarding, where the ride is what the best journey needs.
+#[test]
+fn plans_over_other_timetables(rt: HostRuntime) -> Result<(), Fail> {
+    let alloc = rt.alloc();
+    for (trips, stops, stop_times, line, output) in [
         (
-            "f/stop_times.txt",
+            "route_id,service_id,trip_id\nR,S,T9\n",
+            "stop_id,stop_name,stop_lat,stop_lon\nA,A,0.0,0.0\nB,B,0.1,0.0\nC,C,0.1,0.005\nD,D,0.3,0.0\n",
             "trip_id,arrival_time,departure_time,stop_id,stop_sequence\n\
              T9,24:10:00,24:10:00,A,1\nT9,24:20:00,24:20:00,B,2\n",
+            "plan f --days 2 from=stop:A&to=stop:B&time=1715040000&window=1800",
+            AFTER_MIDNIGHT,
         ),
-    ];
-    let mut folder = folder(alloc, &night, &[])?;
-    let line = "plan f --days 2 from=stop:A&to=stop:B&time=1715040000&window=1800";
-    expect(
-        &rt,
-        alloc,
-        &mut folder,
-        &[],
-        line,
-        Status::Done,
-        AFTER_MIDNIGHT,
-    )
+        (
+            "route_id,service_id,trip_id\nR,S,V1\nR,S,V2\nR,S,V3\n",
+            "stop_id,stop_name,stop_lat,stop_lon\nE,E,1.0,0.0\nP,P,1.1,0.0\nX,X,1.1,0.005\nD,D,1.3,0.0\n",
+            "trip_id,arrival_time,departure_time,stop_id,stop_sequence\n\
+             V1,10:00:00,10:00:00,E,1\nV1,10:13:20,10:13:20,P,2\n\
+             V2,10:00:00,10:00:00,E,1\nV2,10:27:18,10:27:18,X,2\n\
+             V3,10:30:00,10:30:00,X,1\nV3,10:40:00,10:40:00,D,2\n",
+            "plan f from=stop:E&to=stop:D&time=1714989600&window=60",
+            WITHOUT_A_CHANGE_ON_FOOT,
+        ),
+    ] {
+        let changes = [
+            ("f/trips.txt", trips),
+            ("f/stops.txt", stops),
+            ("f/stop_times.txt", stop_times),
+        ];
+        let mut folder = folder(alloc, &changes, &[])?;
+        expect(&rt, alloc, &mut folder, &[], line, Status::Done, output)?;
+    }
+    Ok(())
 }
 
 // The feed and the command once more for each file and each piece of the output, which fails.
@@ -382,6 +426,9 @@ fn failures(rt: HostRuntime) -> Result<(), Fail> {
     for (write, output) in [
         (1, ""),
         (2, "stops=4"),
+        (3, "stops=4 trips="),
+        (4, "stops=4 trips=3 runs="),
+        (5, "stops=4 trips=3 runs=3 calls"),
         (6, "stops=4 trips=3 runs=3 calls=7 pass"),
     ] {
         let mut folder = folder(alloc, &[], &[])?;
