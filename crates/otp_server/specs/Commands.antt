@@ -12,7 +12,7 @@ use Rattle.otp_model.specs.declared.feed_fault.FeedFault.{FeedFault}
 use Rattle.otp_model.specs.declared.feed_fault.FeedFault.TheVariants as feed
 use Rattle.otp_model.specs.declared.options.Options.{Options}
 use Rattle.otp_server.specs.Lines.{counts_line}
-use Rattle.otp_server.specs.Reply.{IsPlanned, IsQueryFault}
+use Rattle.otp_server.specs.Reply.{IsPlanned, IsQueryFault, IsSearchable}
 use Rattle.otp_server.specs.declared.refusal.Refusal.{Refusal}
 use Rattle.otp_server.specs.declared.refusal.Refusal.TheVariants as refusal
 
@@ -25,16 +25,18 @@ abbrev pub counts_of : Loaded → List ℕ
 counts_of loaded =
     counts_line (length loaded.feed.stops) (length loaded.feed.trips) (length loaded.feed.runs) (call_count loaded.feed.runs) loaded.passed
 
--- what `check` writes
+-- what `check` writes; the feed is sound over every folder
 pub record Checks (files : Option (List FileEntry)) (path : List ℕ) (options : Options) (text : List ℕ) : Type 0 where
   pub loaded : Loaded
   pub spelt : Spells files path options (Ok loaded)
+  pub searchable : IsSearchable loaded.feed loaded.edges
   pub text_is : text ≡ counts_of loaded
 
--- what `plan` writes
+-- what `plan` writes; the feed is sound over every folder
 pub record Plans (files : Option (List FileEntry)) (path : List ℕ) (options : Options) (query text : List ℕ) : Type 0 where
   pub loaded : Loaded
   pub spelt : Spells files path options (Ok loaded)
+  pub searchable : IsSearchable loaded.feed loaded.edges
   pub planned : IsPlanned loaded.feed loaded.edges query text
 
 -- a fault of the feed; a failed read and want of memory say nothing of it
@@ -49,6 +51,7 @@ IsFeedFault files path options refusal.Memory = Unit {0}
 pub record IsRefusedOver (files : Option (List FileEntry)) (path : List ℕ) (options : Options) (query : List ℕ) (why : Refusal) : Type 0 where
   pub loaded : Loaded
   pub spelt : Spells files path options (Ok loaded)
+  pub searchable : IsSearchable loaded.feed loaded.edges
   pub fault : IsQueryFault loaded.feed loaded.edges query why
 
 -- a fault of the feed, or else of the query
