@@ -1,4 +1,5 @@
 pub mod AddsLemmas
 pub mod Appends
+pub mod EachAtLemmas
 pub mod NumberLemmas
 pub mod Whole

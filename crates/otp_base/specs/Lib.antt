@@ -1,6 +1,11 @@
 pub mod Adds
+pub mod Answers
+pub mod Cut
+pub mod EachAt
 pub mod Faults
 pub mod Folder
 pub mod Number
+pub mod Optionals
+pub mod Results
 pub mod Sink
 pub mod Source

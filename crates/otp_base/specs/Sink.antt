@@ -1,6 +1,5 @@
 -- What a write to a sink does.
 use Rattle.std.specs.Prelude.{◌≡◌, ℕ, ◌≤◌, Option, Some, None, List, ◌++◌, length, take}
-use Rattle.otp_base.specs.Faults.{Rose}
 use Rattle.otp_base.specs.declared.sink.Put.{Put}
 use Rattle.otp_base.specs.declared.sink.Put.TheVariants as put
 
@@ -24,8 +23,3 @@ WithinPiece size put.Failed = Unit {0}
 abbrev pub Writes : Option (List ℕ) → Option (List ℕ) → List ℕ → Put → Type 0
 Writes before now piece (put.Took n) = AppendsKnown before now (take n piece)
 Writes before now piece put.Failed = now ≡ before
-
--- a write failed only where the count rose
-abbrev pub PutsByCount : ℕ → ℕ → Put → Type 0
-PutsByCount before now (put.Took n) = before ≤ now
-PutsByCount before now put.Failed = (before ≤ now) × Rose before now

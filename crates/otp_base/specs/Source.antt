@@ -1,6 +1,5 @@
 -- What a read of a source gives.
 use Rattle.std.specs.Prelude.{◌≡◌, ℕ, ◌≤◌, Option, Some, None, List, [], ◌++◌, take}
-use Rattle.otp_base.specs.Faults.{Rose}
 use Rattle.otp_base.specs.declared.source.Got.{Got}
 use Rattle.otp_base.specs.declared.source.Got.TheVariants as got
 
@@ -22,9 +21,3 @@ Reads None None slice given = Unit {0}
 Reads None (Some now) slice given = ⊥
 Reads (Some before) None slice given = ⊥
 Reads (Some before) (Some now) slice given = Takes before now slice given
-
--- a read failed only where the count rose
-abbrev pub GotByCount : ℕ → ℕ → Got → Type 0
-GotByCount before now (got.Bytes n) = before ≤ now
-GotByCount before now got.End = before ≤ now
-GotByCount before now got.Failed = (before ≤ now) × Rose before now

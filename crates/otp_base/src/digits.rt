@@ -17,6 +17,19 @@ pub fn number(text: &str) -> Option<u64>
     }
 }
 
+/// The same of bytes that may be no text.
+pub fn number_of_bytes(bytes: &[u8]) -> Option<u64>
+    ensures { result ≡ number_of bytes.now }
+{
+    if !are_digits(bytes) {
+        return None;
+    }
+    match str::from_utf8(bytes) {
+        Ok(text) => number(text),
+        Err(_) => None,
+    }
+}
+
 /// The same where the number is in a range, its ends included.
 pub fn number_in(low: u64, high: u64, text: &str) -> Option<u64>
     ensures { result ≡ number_in low high text.now }

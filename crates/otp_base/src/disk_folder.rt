@@ -1,4 +1,4 @@
-ghost use Rattle.std.specs.Prelude.{◌≤◌, IfOk, None, length};
+ghost use Rattle.std.specs.Prelude.{◌≡◌, ◌≤◌, IfOk, None, length};
 
 use crate::folder::{FileGot, Folder};
 use std::fs;
@@ -12,6 +12,15 @@ use std::rt::Files;
 pub struct DiskFolder<R: Files<File = File> + Drop> {
     pub rt: R,
     pub faults: u64,
+}
+
+impl<R: Files<File = File> + Drop> DiskFolder<R> {
+    /// The files of the machine, of which no read has failed yet.
+    pub fn new(rt: R) -> DiskFolder<R>
+        ensures { result.faults ≡ 0 }
+    {
+        DiskFolder { rt, faults: 0 }
+    }
 }
 
 impl<R: Files<File = File> + Drop> Folder for DiskFolder<R> {

@@ -1,6 +1,6 @@
 ghost use Rattle.std.specs.Prelude.{◌≡◌, ℕ, ◌<◌, ◌≤◌, Option, List, length};
 ghost use Rattle.otp_base.specs.Faults.{Rose};
-ghost use Rattle.otp_base.specs.Folder.{FailsByCount, ReadsFile, ReadsWhole, WithinRoom};
+ghost use Rattle.otp_base.specs.Folder.{ReadsFile, ReadsWhole, WithinRoom};
 ghost use Rattle.otp_base.specs.declared.folder.FileEntry.{FileEntry};
 
 use crate::list::List;
@@ -52,7 +52,8 @@ pub trait Folder {
         ensures bound { WithinRoom (length into.old) result }
         ensures bytes { ReadsFile (files self.old) name.now at result into.new }
         ensures unchanged { files self.new ≡ files self.old }
-        ensures cause { FailsByCount (faults self.old) (faults self.new) result };
+        ensures later { faults self.old ≤ faults self.new }
+        ensures cause { result ≡ FileGot.Failed → Rose (faults self.old) (faults self.new) };
 }
 
 /// How many bytes are asked for in one read.

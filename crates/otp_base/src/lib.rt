@@ -22,7 +22,7 @@ mod std_source;
 mod text;
 
 pub use adding::push_some;
-pub use digits::{number, number_in};
+pub use digits::{number, number_in, number_of_bytes};
 pub use disk_folder::DiskFolder;
 pub use folder::{FileEntry, FileFault, FileGot, Folder, read_file};
 pub use list::List;

@@ -1,4 +1,5 @@
 ghost use Rattle.std.specs.Prelude.{◌≡◌, ◌↔◌, IsTrue, [], ◌∷◌, ◌++◌, length, OnOk, OnErr};
+ghost use Rattle.std.specs.Option.{option_to_list};
 
 use crate::memory::Memory;
 use std::alloc::Global;
@@ -70,6 +71,19 @@ impl<T: Drop> List<T> {
     {
         self.items.push(item)?;
         Ok(())
+    }
+}
+
+impl<T: Drop> List<T> {
+    /// Adds what the option holds at the end. An `Err` changes nothing.
+    pub fn push_some(&mut self, item: Option<T>) -> Result<(), Memory>
+        ensures ok { OnOk result (self.new ≡ self.old ++ option_to_list item) }
+        ensures err { OnErr result (self.new ≡ self.old) }
+    {
+        match item {
+            Some(item) => self.push(item),
+            None => Ok(()),
+        }
     }
 }
 

@@ -16,7 +16,7 @@ pub struct MemorySink {
 }
 
 impl MemorySink {
-    /// An empty sink.
+    /// A sink that holds these bytes.
     pub fn new(bytes: List<u8>, fails: List<u64>, most: usize) -> MemorySink
         requires { 1 ≤ most }
         ensures contents { result.bytes ≡ bytes }

@@ -1,6 +1,6 @@
 ghost use Rattle.std.specs.Prelude.{◌≡◌, ℕ, ◌<◌, ◌≤◌, Option, List, length, OnOk, OnErr};
 ghost use Rattle.otp_base.specs.Faults.{Rose};
-ghost use Rattle.otp_base.specs.Sink.{AppendsFront, AppendsKnown, PutsByCount, WithinPiece, Writes};
+ghost use Rattle.otp_base.specs.Sink.{AppendsFront, AppendsKnown, WithinPiece, Writes};
 
 /// What one write to a sink did.
 #[derive(Clone, Copy, Debug, PartialEq, Eq)]
@@ -26,7 +26,8 @@ pub trait Sink {
         requires { 0 < length piece.now }
         ensures bound { WithinPiece (length piece.now) result }
         ensures bytes { Writes (contents self.old) (contents self.new) piece.now result }
-        ensures cause { PutsByCount (faults self.old) (faults self.new) result };
+        ensures later { faults self.old ≤ faults self.new }
+        ensures cause { result ≡ Put.Failed → Rose (faults self.old) (faults self.new) };
 }
 
 /// Writes all the bytes. It takes no memory.

@@ -1,5 +1,6 @@
-ghost use Rattle.std.specs.Prelude.{ℕ, ◌<◌, Option, List, length};
-ghost use Rattle.otp_base.specs.Source.{GotByCount, Reads, WithinSlice};
+ghost use Rattle.std.specs.Prelude.{◌≡◌, ℕ, ◌<◌, ◌≤◌, Option, List, length};
+ghost use Rattle.otp_base.specs.Faults.{Rose};
+ghost use Rattle.otp_base.specs.Source.{Reads, WithinSlice};
 
 /// What one read of a source gave.
 #[derive(Clone, Copy, Debug, PartialEq, Eq)]
@@ -23,5 +24,6 @@ pub trait Source {
         requires { 0 < length into.old }
         ensures bound { WithinSlice (length into.old) result }
         ensures bytes { Reads (left self.old) (left self.new) into.new result }
-        ensures cause { GotByCount (faults self.old) (faults self.new) result };
+        ensures later { faults self.old ≤ faults self.new }
+        ensures cause { result ≡ Got.Failed → Rose (faults self.old) (faults self.new) };
 }

@@ -1,4 +1,4 @@
-ghost use Rattle.std.specs.Prelude.{None};
+ghost use Rattle.std.specs.Prelude.{◌≡◌, None};
 
 use crate::sink::{Put, Sink};
 use std::io::Write;
@@ -8,6 +8,15 @@ use std::io::Write;
 pub struct StdSink<W: Write + Drop> {
     pub writer: W,
     pub faults: u64,
+}
+
+impl<W: Write + Drop> StdSink<W> {
+    /// A sink over a writer that has not failed yet.
+    pub fn new(writer: W) -> StdSink<W>
+        ensures { result.faults ≡ 0 }
+    {
+        StdSink { writer, faults: 0 }
+    }
 }
 
 impl<W: Write + Drop> Sink for StdSink<W> {

@@ -1,4 +1,4 @@
-ghost use Rattle.std.specs.Prelude.{None};
+ghost use Rattle.std.specs.Prelude.{◌≡◌, None};
 
 use crate::source::{Got, Source};
 use std::io::Read;
@@ -8,6 +8,15 @@ use std::io::Read;
 pub struct StdSource<R: Read + Drop> {
     pub reader: R,
     pub faults: u64,
+}
+
+impl<R: Read + Drop> StdSource<R> {
+    /// A source over a reader that has not failed yet.
+    pub fn new(reader: R) -> StdSource<R>
+        ensures { result.faults ≡ 0 }
+    {
+        StdSource { reader, faults: 0 }
+    }
 }
 
 impl<R: Read + Drop> Source for StdSource<R> {

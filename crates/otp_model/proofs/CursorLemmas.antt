@@ -17,34 +17,34 @@ module _ (runs : List Run) (edges : Edges) (r : Request) (cursor : Option Cursor
   follows_from : (last : Call) (walk : ℕ) (legs : List Leg) → Follows runs edges r last walk legs → Follows runs edges (from_cursor r cursor) last walk legs
   follows_from last walk [] h = h
   follows_from last walk (Walk seconds ∷ legs) h = absurd h
-  follows_from last walk (Ride trip day board alight ∷ []) h = absurd h
-  follows_from last walk (Ride trip day board alight ∷ Walk next ∷ legs) h = (h.0, h.1, follows_from alight next legs h.2)
-  follows_from last walk (Ride trip day board alight ∷ Ride trip' day' board' alight' ∷ legs) h = absurd h
+  follows_from last walk (Ride name board alight ∷ []) h = absurd h
+  follows_from last walk (Ride name board alight ∷ Walk next ∷ legs) h = (h.0, h.1, follows_from alight next legs h.2)
+  follows_from last walk (Ride name board alight ∷ Ride name' board' alight' ∷ legs) h = absurd h
 
   follows_to : (last : Call) (walk : ℕ) (legs : List Leg) → Follows runs edges (from_cursor r cursor) last walk legs → Follows runs edges r last walk legs
   follows_to last walk [] h = h
   follows_to last walk (Walk seconds ∷ legs) h = absurd h
-  follows_to last walk (Ride trip day board alight ∷ []) h = absurd h
-  follows_to last walk (Ride trip day board alight ∷ Walk next ∷ legs) h = (h.0, h.1, follows_to alight next legs h.2)
-  follows_to last walk (Ride trip day board alight ∷ Ride trip' day' board' alight' ∷ legs) h = absurd h
+  follows_to last walk (Ride name board alight ∷ []) h = absurd h
+  follows_to last walk (Ride name board alight ∷ Walk next ∷ legs) h = (h.0, h.1, follows_to alight next legs h.2)
+  follows_to last walk (Ride name board alight ∷ Ride name' board' alight' ∷ legs) h = absurd h
 
   journey_from : (legs : List Leg) → IsJourney runs edges r legs → IsJourney runs edges (from_cursor r cursor) legs
   journey_from [] h = h
-  journey_from (Ride trip day board alight ∷ legs) h = absurd h
+  journey_from (Ride name board alight ∷ legs) h = absurd h
   journey_from (Walk first ∷ []) h = absurd h
   journey_from (Walk first ∷ Walk seconds ∷ legs) h = absurd h
-  journey_from (Walk first ∷ Ride trip day board alight ∷ []) h = absurd h
-  journey_from (Walk first ∷ Ride trip day board alight ∷ Walk next ∷ legs) h = (h.0, h.1, follows_from alight next legs h.2, h.3)
-  journey_from (Walk first ∷ Ride trip day board alight ∷ Ride trip' day' board' alight' ∷ legs) h = absurd h
+  journey_from (Walk first ∷ Ride name board alight ∷ []) h = absurd h
+  journey_from (Walk first ∷ Ride name board alight ∷ Walk next ∷ legs) h = (h.0, h.1, follows_from alight next legs h.2, h.3)
+  journey_from (Walk first ∷ Ride name board alight ∷ Ride name' board' alight' ∷ legs) h = absurd h
 
   journey_to : (legs : List Leg) → IsJourney runs edges (from_cursor r cursor) legs → IsJourney runs edges r legs
   journey_to [] h = h
-  journey_to (Ride trip day board alight ∷ legs) h = absurd h
+  journey_to (Ride name board alight ∷ legs) h = absurd h
   journey_to (Walk first ∷ []) h = absurd h
   journey_to (Walk first ∷ Walk seconds ∷ legs) h = absurd h
-  journey_to (Walk first ∷ Ride trip day board alight ∷ []) h = absurd h
-  journey_to (Walk first ∷ Ride trip day board alight ∷ Walk next ∷ legs) h = (h.0, h.1, follows_to alight next legs h.2, h.3)
-  journey_to (Walk first ∷ Ride trip day board alight ∷ Ride trip' day' board' alight' ∷ legs) h = absurd h
+  journey_to (Walk first ∷ Ride name board alight ∷ []) h = absurd h
+  journey_to (Walk first ∷ Ride name board alight ∷ Walk next ∷ legs) h = (h.0, h.1, follows_to alight next legs h.2, h.3)
+  journey_to (Walk first ∷ Ride name board alight ∷ Ride name' board' alight' ∷ legs) h = absurd h
 
   offered_from : (v : Value) → IsOffered runs edges r v → IsOffered runs edges (from_cursor r cursor) v
   offered_from v h = record {

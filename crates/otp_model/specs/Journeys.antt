@@ -4,6 +4,7 @@
 use Rattle.std.specs.Prelude.{◌≡◌, ℕ, ◌+◌, ◌<◌, ◌≤◌, max, ℤ, pos, ◌+ℤ◌, ◌-ℤ◌, ◌*ℤ◌, ◌≤ℤ◌, List, [], ◌∷◌, Some, IsTrue, slice_get}
 use Rattle.std.specs.List.{Contains}
 use Rattle.otp_model.specs.declared.timetable.Call.{Call}
+use Rattle.otp_model.specs.declared.run_name.RunName.{RunName}
 use Rattle.otp_model.specs.declared.timetable.Run.{Run}
 use Rattle.otp_model.specs.declared.timetable.Edge.{Edge}
 use Rattle.otp_model.specs.declared.timetable.Edges.{Edges}
@@ -14,9 +15,8 @@ use Rattle.otp_model.specs.declared.journey.Leg.TheVariants.{Walk, Ride}
 use Rattle.otp_model.specs.Plane.{IsReached}
 
 -- two calls of a run, the boarding call before the alighting call, both allowed
-pub record IsRideOn (run : Run) (from to : ℕ) (trip : ℕ) (day : ℤ) (board alight : Call) : Type 0 where
-  pub trip_is : trip ≡ run.trip
-  pub day_is : day ≡ run.day
+pub record IsRideOn (run : Run) (from to : ℕ) (name : RunName) (board alight : Call) : Type 0 where
+  pub name_is : name ≡ run.name
   pub before : from < to
   pub boards : slice_get run.calls from ≡ Some board
   pub alights : slice_get run.calls to ≡ Some alight
@@ -24,12 +24,12 @@ pub record IsRideOn (run : Run) (from to : ℕ) (trip : ℕ) (day : ℤ) (board 
   pub may_alight : IsTrue alight.alight
 
 -- a ride of the schedule
-pub record IsRide (runs : List Run) (trip : ℕ) (day : ℤ) (board alight : Call) : Type 0 where
+pub record IsRide (runs : List Run) (name : RunName) (board alight : Call) : Type 0 where
   pub run : Run
   pub on : Contains runs run
   pub from : ℕ
   pub to : ℕ
-  pub is : IsRideOn run from to trip day board alight
+  pub is : IsRideOn run from to name board alight
 
 -- A change between two rides: an edge from the stop of one to the stop of the other, in time for the
 -- boarding. It takes the walk and the slack, and no less than the edge's minimum.
@@ -46,33 +46,33 @@ pub record IsTransfer (edges : Edges) (slack : ℕ) (alight board : Call) (walk 
 -- to the destination, or another ride after a transfer, and what follows that one.
 abbrev pub Follows : List Run → Edges → Request → Call → ℕ → List Leg → Type 0
 Follows runs edges r last walk [] = IsReached edges r.to last.stop walk
-Follows runs edges r last walk (Ride trip day board alight ∷ Walk next ∷ legs) =
-    IsTransfer edges r.slack last board walk × IsRide runs trip day board alight × Follows runs edges r alight next legs
+Follows runs edges r last walk (Ride name board alight ∷ Walk next ∷ legs) =
+    IsTransfer edges r.slack last board walk × IsRide runs name board alight × Follows runs edges r alight next legs
 Follows runs edges r last walk _ = ⊥
 
 -- how many rides there are
 abbrev pub rides_of : List Leg → ℕ
 rides_of [] = 0
 rides_of (Walk seconds ∷ legs) = rides_of legs
-rides_of (Ride trip day board alight ∷ legs) = 1 + rides_of legs
+rides_of (Ride name board alight ∷ legs) = 1 + rides_of legs
 
 -- A journey: the walk to the first stop, a ride, and what may follow it, with no more rides than asked for.
 abbrev pub IsJourney : List Run → Edges → Request → List Leg → Type 0
-IsJourney runs edges r (Walk first ∷ Ride trip day board alight ∷ Walk next ∷ legs) =
-    IsReached edges r.from board.stop first × IsRide runs trip day board alight × Follows runs edges r alight next legs
+IsJourney runs edges r (Walk first ∷ Ride name board alight ∷ Walk next ∷ legs) =
+    IsReached edges r.from board.stop first × IsRide runs name board alight × Follows runs edges r alight next legs
     × (1 + rides_of legs ≤ r.rides)
 IsJourney runs edges r _ = ⊥
 
 -- the first boarding's departure less the seconds walked before it
 abbrev pub departure_of : List Leg → ℤ
-departure_of (Walk seconds ∷ Ride trip day board alight ∷ legs) = board.departure -ℤ pos seconds
+departure_of (Walk seconds ∷ Ride name board alight ∷ legs) = board.departure -ℤ pos seconds
 departure_of _ = pos 0
 
 -- where these legs begin at t, when they end: a ride ends at its alighting's arrival, a walk takes its seconds
 abbrev pub arrival_after : ℤ → List Leg → ℤ
 arrival_after t [] = t
 arrival_after t (Walk seconds ∷ legs) = arrival_after (t +ℤ pos seconds) legs
-arrival_after t (Ride trip day board alight ∷ legs) = arrival_after alight.arrival legs
+arrival_after t (Ride name board alight ∷ legs) = arrival_after alight.arrival legs
 
 -- the last alighting's arrival plus the seconds walked after it
 abbrev pub arrival_of : List Leg → ℤ
@@ -82,7 +82,7 @@ arrival_of legs = arrival_after (pos 0) legs
 abbrev pub walked_of : List Leg → ℕ
 walked_of [] = 0
 walked_of (Walk seconds ∷ legs) = seconds + walked_of legs
-walked_of (Ride trip day board alight ∷ legs) = walked_of legs
+walked_of (Ride name board alight ∷ legs) = walked_of legs
 
 -- 100 for each second from departure to arrival, more for each on foot, and the points of each boarding
 abbrev pub cost_of : Request → List Leg → ℤ

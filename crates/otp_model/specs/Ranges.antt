@@ -1,7 +1,10 @@
 -- The ranges of what is searched.
-use Rattle.std.specs.Prelude.{◌^◌, ◌≤◌, ℤ, pos, neg_ℤ, ◌≤ℤ◌}
+use Rattle.std.specs.Prelude.{◌^◌, ◌<◌, ◌≤◌, ℤ, pos, neg_ℤ, ◌≤ℤ◌, List, length}
 use Rattle.std.specs.List.{All, AllPairs}
+use Rattle.otp_model.specs.Limits.{last_day, last_first_day, least_speed, least_walk_points, most_board_points, most_days, most_feeds, most_reach, most_rides, most_scale, most_speed, most_time, most_walk_points}
+use Rattle.otp_model.specs.Plane.{IsPlaceOf}
 use Rattle.otp_model.specs.declared.timetable.Call.{Call}
+use Rattle.otp_model.specs.declared.timetable.Edges.{Edges}
 use Rattle.otp_model.specs.declared.timetable.Run.{Run}
 use Rattle.otp_model.specs.declared.options.Options.{Options}
 use Rattle.otp_model.specs.declared.timetable.Profile.{Profile}
@@ -9,15 +12,15 @@ use Rattle.otp_model.specs.declared.journey.Request.{Request}
 use Rattle.otp_model.specs.declared.journey.Leg.{Leg}
 use Rattle.otp_model.specs.declared.journey.Leg.TheVariants.{Walk, Ride}
 
--- a time from -2 ^ 42 to 2 ^ 42
+-- a time that may be searched
 pub record IsTime (t : ℤ) : Type 0 where
-  pub low : neg_ℤ (pos (2 ^ 42)) ≤ℤ t
-  pub high : t ≤ℤ pos (2 ^ 42)
+  pub low : neg_ℤ (pos most_time) ≤ℤ t
+  pub high : t ≤ℤ pos most_time
 
 -- a walk, or a ride whose times are in range
 abbrev pub IsLegInRange : Leg → Type 0
 IsLegInRange (Walk seconds) = Unit {0}
-IsLegInRange (Ride trip day board alight) = IsTime board.departure × IsTime alight.arrival
+IsLegInRange (Ride name board alight) = IsTime board.departure × IsTime alight.arrival
 
 abbrev pub IsCallInRange : Call → Type 0
 IsCallInRange call = IsTime call.arrival × IsTime call.departure
@@ -29,24 +32,38 @@ pub record IsTimely (run : Run) : Type 0 where
 
 -- the numbers of a request are in range
 pub record IsRequestInRange (r : Request) : Type 0 where
-  pub rides : (1 ≤ r.rides) × (r.rides ≤ 8)
-  pub walk_points : (100 ≤ r.walk_points) × (r.walk_points ≤ 2000)
-  pub board_points : r.board_points ≤ 1000000
+  pub rides : (1 ≤ r.rides) × (r.rides ≤ most_rides)
+  pub walk_points : (least_walk_points ≤ r.walk_points) × (r.walk_points ≤ most_walk_points)
+  pub board_points : r.board_points ≤ most_board_points
 
 -- a day of the years 1970 to 2999
 pub record IsServiceDay (day : ℤ) : Type 0 where
   pub low : pos 0 ≤ℤ day
-  pub high : day ≤ℤ pos 376199
+  pub high : day ≤ℤ pos last_day
 
 -- the numbers of a profile are in range
 pub record IsProfileInRange (profile : Profile) : Type 0 where
-  pub speed : (100 ≤ profile.speed) × (profile.speed ≤ 10000)
-  pub reach : profile.reach ≤ 5000000
-  pub scale : profile.scale ≤ 111195
+  pub speed : (least_speed ≤ profile.speed) × (profile.speed ≤ most_speed)
+  pub reach : profile.reach ≤ most_reach
+  pub scale : profile.scale ≤ most_scale
+
+-- how far and how fast people walk is within what walks are computed for
+pub record CanWalk (profile : Profile) : Type 0 where
+  pub reach : profile.reach ≤ most_reach
+  pub speed : 0 < profile.speed
+
+-- what a search asks for
+pub record CanSearch (runs : List Run) (edges : Edges) (r : Request) : Type 0 where
+  pub timely : All IsTimely runs
+  pub numbers : IsRequestInRange r
+  pub walks : CanWalk edges.profile
+  pub stops : length edges.stops < 2 ^ 32
+  pub from : IsPlaceOf edges.stops r.from
+  pub to : IsPlaceOf edges.stops r.to
 
 -- a first day of the years 1970 to 2998, and numbers in their ranges
 pub record AreOptionsInRange (options : Options) : Type 0 where
-  pub first_day : (pos 0 ≤ℤ options.first_day) × (options.first_day ≤ℤ pos 375834)
-  pub days : (1 ≤ options.days) × (options.days ≤ 31)
-  pub feeds : (1 ≤ options.feeds) × (options.feeds ≤ 16)
+  pub first_day : (pos 0 ≤ℤ options.first_day) × (options.first_day ≤ℤ pos last_first_day)
+  pub days : (1 ≤ options.days) × (options.days ≤ most_days)
+  pub feeds : (1 ≤ options.feeds) × (options.feeds ≤ most_feeds)
   pub profile : IsProfileInRange options.profile

@@ -3,6 +3,7 @@
 use Rattle.std.specs.Prelude.{◌≢◌, ℕ, ◌<◌, ◌≤◌, ◌^◌, ℤ, pos, neg_ℤ, ◌≤ℤ◌, List, [], length, Option, IfSome}
 use Rattle.std.specs.List.{All}
 use Rattle.jiff_core.specs.Calendar.{IsEpochDay}
+use Rattle.otp_model.specs.Limits.{clock_end, most_latitude, most_longitude, most_records}
 use Rattle.otp_model.specs.declared.tables.AgencyRow.{AgencyRow}
 use Rattle.otp_model.specs.declared.tables.StopRow.{StopRow}
 use Rattle.otp_model.specs.declared.tables.RouteRow.{RouteRow}
@@ -11,6 +12,7 @@ use Rattle.otp_model.specs.declared.tables.StopTimeRow.{StopTimeRow}
 use Rattle.otp_model.specs.declared.tables.CalendarRow.{CalendarRow}
 use Rattle.otp_model.specs.declared.tables.DateRow.{DateRow}
 use Rattle.otp_model.specs.declared.tables.TransferLine.{TransferLine}
+use Rattle.otp_model.specs.declared.tables.FrequencyRow.{FrequencyRow}
 use Rattle.otp_model.specs.declared.tables.Tables.{Tables}
 
 -- from -limit to limit
@@ -20,15 +22,15 @@ pub record IsWithin (limit : ℕ) (z : ℤ) : Type 0 where
 
 -- a time of day, if there is one, of at most 999:59:59
 abbrev pub IsClock : Option ℕ → Type 0
-IsClock time = IfSome time (λ seconds. seconds < 3600000)
+IsClock time = IfSome time (λ seconds. seconds < clock_end)
 
 pub record IsAgencyRow (row : AgencyRow) : Type 0 where
   pub zone : row.agency_timezone ≢ []
 
 pub record IsStopRow (row : StopRow) : Type 0 where
   pub id : row.stop_id ≢ []
-  pub lat : IsWithin 90000000 row.stop_lat
-  pub lon : IsWithin 180000000 row.stop_lon
+  pub lat : IsWithin most_latitude row.stop_lat
+  pub lon : IsWithin most_longitude row.stop_lon
   pub location : row.location_type ≤ 4
 
 pub record IsRouteRow (row : RouteRow) : Type 0 where
@@ -68,9 +70,17 @@ pub record IsTransferLine (row : TransferLine) : Type 0 where
   pub kind : row.transfer_type ≤ 5
   pub minimum : row.min_transfer_time < 10 ^ 9
 
--- at most 2 ^ 29 records, and each in its ranges
+-- its trip starts each `headway_secs`, which are at most 999,999 and never 0
+pub record IsFrequencyRow (row : FrequencyRow) : Type 0 where
+  pub trip : row.trip_id ≢ []
+  pub start : row.start_time < clock_end
+  pub end : row.end_time < clock_end
+  pub headway : (1 ≤ row.headway_secs) × (row.headway_secs < 10 ^ 6)
+  pub exact : row.exact_times ≤ 1
+
+-- no more records than a file may have, and each in its ranges
 pub record AreRead {Row : Type 0} (IsRow : Row → Type 0) (rows : List Row) : Type 0 where
-  pub few : length rows ≤ 2 ^ 29
+  pub few : length rows ≤ most_records
   pub each : All IsRow rows
 
 pub record AreTables (tables : Tables) : Type 0 where
@@ -82,3 +92,4 @@ pub record AreTables (tables : Tables) : Type 0 where
   pub calendars : AreRead IsCalendarRow tables.calendars
   pub dates : AreRead IsDateRow tables.dates
   pub transfers : AreRead IsTransferLine tables.transfers
+  pub frequencies : AreRead IsFrequencyRow tables.frequencies

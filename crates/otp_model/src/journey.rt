@@ -1,10 +1,13 @@
-ghost use Rattle.std.specs.Prelude.{IsTrue, ◌↔◌};
+ghost use Rattle.std.specs.Prelude.{◌≡◌, IfOk, IsTrue, ◌↔◌};
+ghost use Rattle.std.specs.List.{All};
 ghost use Rattle.otp_model.specs.Plane.{IsPlaceOf};
-ghost use Rattle.otp_model.specs.Ranges.{IsRequestInRange};
+ghost use Rattle.otp_model.specs.Ranges.{CanSearch, IsRequestInRange, IsTimely};
 ghost use Rattle.otp_model.specs.Whole.{Dominates, IsInWindow, IsNoWorse};
 
-use crate::timetable::{Call, DayNo, Stop, StopNo, Time, TripNo};
-use otp_base::List;
+use crate::run_name::RunName;
+use crate::timetable::{Call, Edges, Run, Stop, StopNo, Time};
+use otp_base::{List, Memory};
+use std::alloc::Global;
 
 /// Where a journey begins or ends: a stop or station by its number, or a point of the plane.
 #[derive(Clone, Copy, Debug, PartialEq, Eq)]
@@ -23,17 +26,39 @@ pub struct Value {
 }
 
 /// A part of a journey: a walk of so many seconds, or a ride from one call of a run to a later one.
-#[derive(Clone, Copy, Debug, PartialEq, Eq)]
+#[derive(Debug, Drop)]
 pub enum Leg {
     Walk {
         seconds: u32,
     },
     Ride {
-        trip: TripNo,
-        day: DayNo,
+        name: RunName,
         board: Call,
         alight: Call,
     },
+}
+
+impl Leg {
+    /// The same leg, in memory of its own.
+    pub fn copy(&self, alloc: Global) -> Result<Leg, Memory>
+        ensures { IfOk result (λ leg. leg ≡ self.now) }
+    {
+        match self {
+            Leg::Walk { seconds } => Ok(Leg::Walk { seconds: *seconds }),
+            Leg::Ride {
+                name,
+                board,
+                alight,
+            } => {
+                let name = name.copy(alloc)?;
+                Ok(Leg::Ride {
+                    name,
+                    board: *board,
+                    alight: *alight,
+                })
+            }
+        }
+    }
 }
 
 /// Walk, ride, walk and so on, ending in a walk.
@@ -104,6 +129,23 @@ impl Request {
             && self.board_points <= 1_000_000
     }
 
+    /// Whether it can be searched over the runs and edges.
+    pub fn can_search(&self, runs: &[Run], edges: &Edges) -> bool
+        ensures { IsTrue result ↔ CanSearch runs.now edges.now self.now }
+    {
+        let stops = edges.stops.as_slice();
+        if !self.is_in_range() || !edges.profile.can_walk() {
+            return false;
+        }
+        if stops.len() as u64 >= STOPS_END {
+            return false;
+        }
+        if !self.from.is_of(stops) || !self.to.is_of(stops) {
+            return false;
+        }
+        are_timely(runs)
+    }
+
     /// Whether the departure is in the window.
     pub fn has_in_window(&self, value: &Value) -> bool
         ensures { IsTrue result ↔ IsInWindow self.now value.now }
@@ -111,6 +153,20 @@ impl Request {
         value.departure >= self.time
             && i128::from(value.departure) < i128::from(self.time) + i128::from(self.window)
     }
+}
+
+/// One more than the most stops that numbers of stops tell apart.
+const STOPS_END: u64 = 1 << 32;
+
+fn are_timely(runs: &[Run]) -> bool
+    ensures { IsTrue result ↔ All IsTimely runs.now }
+{
+    for run in runs {
+        if !run.is_timely() {
+            return false;
+        }
+    }
+    true
 }
 
 impl Value {

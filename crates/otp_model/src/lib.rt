@@ -2,6 +2,7 @@
 //! journeys a schedule has, what each is worth, which of them are best and what a page of them is.
 #![tactic(auto)]
 
+mod change;
 mod day;
 mod feed_fault;
 mod journey;
@@ -9,22 +10,25 @@ mod laws;
 mod links;
 mod message;
 mod options;
+mod run_name;
 mod tables;
 mod timetable;
 mod value;
 
+pub use change::Change;
 pub use day::parse_day;
-pub use feed_fault::FeedFault;
+pub use feed_fault::{FeedCause, FeedFault, FeedFile};
 pub use journey::{Cursor, Found, Journey, Leg, Page, Place, Request, Value};
 pub use laws::pages_join;
 pub use links::{TimeRow, TransferRow};
 pub use message::{Commit, Entity, Event, Message, StopUpdate, TripUpdate};
 pub use options::Options;
+pub use run_name::{RunName, TripName};
 pub use tables::{
-    AgencyRow, CalendarRow, DateRow, RouteRow, StopRow, StopTimeRow, Tables, TransferLine, TripRow,
+    AgencyRow, CalendarRow, DateRow, FrequencyRow, RouteRow, StopRow, StopTimeRow, Tables,
+    TransferLine, TripRow,
 };
 pub use timetable::{
-    Call, DayNo, Edge, Edges, Feed, Point, Profile, Run, RunNo, Stop, StopNo, Time, Trip, TripNo,
-    Zone,
+    Call, DayNo, Edge, Edges, Feed, Point, Profile, Run, Stop, StopNo, Time, Trip, TripNo, Zone,
 };
 pub use value::value_of;

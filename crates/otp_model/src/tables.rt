@@ -83,6 +83,16 @@ pub struct TransferLine {
     pub to_trip_id: Text,
 }
 
+/// A record of `frequencies.txt`, with its times in seconds from noon less 12 hours of the service day.
+#[derive(Debug, Drop)]
+pub struct FrequencyRow {
+    pub trip_id: Text,
+    pub start_time: u32,
+    pub end_time: u32,
+    pub headway_secs: u32,
+    pub exact_times: u32,
+}
+
 /// The records of a feed's files, each list in row order; that of a missing file is empty.
 #[derive(Debug, Drop)]
 pub struct Tables {
@@ -94,4 +104,5 @@ pub struct Tables {
     pub calendars: List<CalendarRow>,
     pub dates: List<DateRow>,
     pub transfers: List<TransferLine>,
+    pub frequencies: List<FrequencyRow>,
 }

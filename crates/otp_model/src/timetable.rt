@@ -1,10 +1,12 @@
 ghost use Rattle.std.specs.Prelude.{◌≡◌, ◌≤◌, ◌^◌, pos, ◌*ℤ◌, ◌≤ℤ◌, ◌↔◌, IsTrue};
 ghost use Rattle.std.specs.Int.{int_div_euclid};
 ghost use Rattle.std.specs.List.{All, AllPairs};
-ghost use Rattle.otp_model.specs.Plane.{point_at, point_of};
-ghost use Rattle.otp_model.specs.Ranges.{IsCallInRange, IsTime, IsTimely};
+ghost use Rattle.otp_model.specs.Limits.{most_latitude, most_longitude, most_plane, most_scale};
+ghost use Rattle.otp_model.specs.Plane.{IsNameable, IsPlatform, IsStation, point_at, point_of};
+ghost use Rattle.otp_model.specs.Ranges.{CanWalk, IsCallInRange, IsTime, IsTimely};
 ghost use Rattle.otp_model.specs.Rows.{IsWithin};
 
+use crate::run_name::RunName;
 use jiff::tz::TimeZone;
 use otp_base::{List, Text};
 
@@ -20,9 +22,6 @@ pub type StopNo = u32;
 /// The place of a trip in the list of all trips.
 pub type TripNo = u32;
 
-/// The place of a run in the list of all runs.
-pub type RunNo = u32;
-
 /// A point of the plane, in millimetres.
 #[derive(Clone, Copy, Debug, PartialEq, Eq)]
 pub struct Point {
@@ -34,12 +33,12 @@ impl Point {
     /// The point at a latitude and a longitude in millionths of a degree, where a millionth of a degree of
     /// longitude is `scale` thousandths of a millimetre long; rounded down.
     pub fn at_degrees(scale: u32, latitude: i64, longitude: i64) -> Point
-        requires scale { scale ≤ 111195 }
-        requires latitude { IsWithin 90000000 latitude }
-        requires longitude { IsWithin 180000000 longitude }
+        requires scale { scale ≤ most_scale }
+        requires latitude { IsWithin most_latitude latitude }
+        requires longitude { IsWithin most_longitude longitude }
         ensures point { result ≡ point_at scale latitude longitude }
-        ensures x { IsWithin (2 ^ 40) result.x }
-        ensures y { IsWithin (2 ^ 40) result.y }
+        ensures x { IsWithin most_plane result.x }
+        ensures y { IsWithin most_plane result.y }
     {
         Point {
             x: millimetres(longitude, scale),
@@ -50,10 +49,10 @@ impl Point {
 
 /// The length of so many millionths of a degree, of which each is `scale` thousandths of a millimetre long.
 fn millimetres(degrees: i64, scale: u32) -> i64
-    requires scale { scale ≤ 111195 }
-    requires degrees { IsWithin 180000000 degrees }
+    requires scale { scale ≤ most_scale }
+    requires degrees { IsWithin most_longitude degrees }
     ensures length { result ≡ int_div_euclid (degrees *ℤ pos scale) (pos 1000) }
-    ensures within { IsWithin (2 ^ 40) result }
+    ensures within { IsWithin most_plane result }
 {
     (degrees * i64::from(scale)).div_euclid(1_000)
 }
@@ -80,7 +79,33 @@ impl Stop {
             y: self.y,
         }
     }
+
+    /// Whether vehicles are boarded and left there.
+    pub fn is_platform(&self) -> bool
+        ensures { IsTrue result ↔ IsPlatform self.now }
+    {
+        self.kind == PLATFORM
+    }
+
+    /// Whether it is a station, which groups stops.
+    pub fn is_station(&self) -> bool
+        ensures { IsTrue result ↔ IsStation self.now }
+    {
+        self.kind == STATION
+    }
+
+    /// Whether a query may name it: a stop or platform, or a station.
+    pub fn is_nameable(&self) -> bool
+        ensures { IsTrue result ↔ IsNameable self.now }
+    {
+        self.kind <= STATION
+    }
 }
+
+/// The `location_type` of a stop or platform, and that of a station.
+const PLATFORM: u8 = 0;
+
+const STATION: u8 = 1;
 
 /// A row of `trips.txt`, with its route and its service by number.
 #[derive(Debug, Drop)]
@@ -104,8 +129,7 @@ pub struct Call {
 /// A trip on one day of service.
 #[derive(Debug, Drop)]
 pub struct Run {
-    pub trip: TripNo,
-    pub day: DayNo,
+    pub name: RunName,
     pub calls: List<Call>,
 }
 
@@ -171,6 +195,18 @@ pub struct Profile {
     pub reach: u32,
     pub scale: u32,
 }
+
+impl Profile {
+    /// Whether walks are computed for so far a reach and so slow a speed.
+    pub fn can_walk(&self) -> bool
+        ensures { IsTrue result ↔ CanWalk self.now }
+    {
+        self.reach <= MOST_REACH && self.speed > 0
+    }
+}
+
+/// The greatest reach, in millimetres.
+const MOST_REACH: u32 = 5_000_000;
 
 /// The stops, and for each the edges that lead from it.
 #[derive(Debug, Drop)]

@@ -1,6 +1,7 @@
 ghost use Rattle.std.specs.Prelude.{◌≡◌, ◌+◌, ◌-◌, ◌*◌, ◌^◌, ◌≤◌, pos, neg_ℤ, ◌≤ℤ◌, length};
 ghost use Rattle.std.specs.List.{All};
 ghost use Rattle.otp_model.specs.Journeys.{HasValue, arrival_of, departure_of, rides_of, walked_of};
+ghost use Rattle.otp_model.specs.Limits.{least_walk_points, most_board_points, most_walk_points};
 ghost use Rattle.otp_model.specs.Ranges.{IsLegInRange};
 
 use crate::journey::{Journey, Leg, Request, Value};
@@ -62,9 +63,9 @@ fn count_totals(legs: &[Leg]) -> Totals
 }
 
 fn cost(request: &Request, elapsed: u64, walked: u64, rides: u32) -> u64
-    requires walk_points { 100 ≤ request.now.walk_points }
-    requires most_points { request.now.walk_points ≤ 2000 }
-    requires board_points { request.now.board_points ≤ 1000000 }
+    requires walk_points { least_walk_points ≤ request.now.walk_points }
+    requires most_points { request.now.walk_points ≤ most_walk_points }
+    requires board_points { request.now.board_points ≤ most_board_points }
     requires elapsed { elapsed ≤ 2 ^ 44 }
     requires little { walked ≤ 2 ^ 37 }
     requires few { rides ≤ 17 }
@@ -80,9 +81,9 @@ pub fn value_of(journey: &Journey, request: &Request) -> Value
     requires few { length journey.now.legs ≤ 17 }
     requires in_range { All IsLegInRange journey.now.legs }
     requires forward { departure_of journey.now.legs ≤ℤ arrival_of journey.now.legs }
-    requires walk_points { 100 ≤ request.now.walk_points }
-    requires most_points { request.now.walk_points ≤ 2000 }
-    requires board_points { request.now.board_points ≤ 1000000 }
+    requires walk_points { least_walk_points ≤ request.now.walk_points }
+    requires most_points { request.now.walk_points ≤ most_walk_points }
+    requires board_points { request.now.board_points ≤ most_board_points }
     ensures { HasValue request.now journey.now.legs result }
 {
     let legs = journey.legs.as_slice();
