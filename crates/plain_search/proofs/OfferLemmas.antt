@@ -6,6 +6,7 @@ use Rattle.std.proofs.lemmas.List.Elements.{All-cons, All-nil, All-contains, Con
 use Rattle.std.proofs.lemmas.Option.{slice_get_within, get_or_from_slice_get}
 use Rattle.otp_base.specs.Adds.{Adds, FromSome, FromBelow}
 use Rattle.otp_base.proofs.AddsLemmas.{adds_as, adds_more_below, Contains-adds}
+use Rattle.otp_model.specs.declared.run_name.RunName.{RunName}
 use Rattle.otp_model.specs.declared.timetable.Run.{Run}
 use Rattle.otp_model.specs.declared.timetable.Call.{Call}
 use Rattle.otp_model.specs.declared.timetable.Edges.{Edges}
@@ -50,8 +51,8 @@ pub record IsRideTimely (board alight : Call) : Type 0 where
   pub arrives : IsTime alight.arrival
   pub forward : board.departure ≤ℤ alight.arrival
 
-ride_timely : (runs : List Run) (trip : ℕ) (day : ℤ) (board alight : Call) → All IsTimely runs → IsRide runs trip day board alight → IsRideTimely board alight
-ride_timely runs trip day board alight all h =
+ride_timely : (runs : List Run) (name : RunName) (board alight : Call) → All IsTimely runs → IsRide runs name board alight → IsRideTimely board alight
+ride_timely runs name board alight all h =
     let timely = All-contains IsTimely runs h.run all h.on in
     let lb = slice_get_within h.run.calls h.from board h.is.boards in
     let la = slice_get_within h.run.calls h.to alight h.is.alights in
@@ -74,40 +75,40 @@ at_most_then a b c h k = omega (arith, ints, h, k)
 module _ (runs : List Run) (edges : Edges) (r : Request) (all : All IsTimely runs) where
   follows_length : (last : Call) (walk : ℕ) (legs : List Leg) → Follows runs edges r last walk legs → length legs ≡ 2 * rides_of legs
   follows_length last walk [] h = refl
-  follows_length last walk (RideLeg t d b a ∷ Walk w ∷ legs) h = omega (arith, follows_length a w legs h.2)
-  follows_length last walk (RideLeg t d b a ∷ RideLeg t' d' b' a' ∷ legs) h = absurd h
-  follows_length last walk (RideLeg t d b a ∷ []) h = absurd h
+  follows_length last walk (RideLeg t b a ∷ Walk w ∷ legs) h = omega (arith, follows_length a w legs h.2)
+  follows_length last walk (RideLeg t b a ∷ RideLeg t' b' a' ∷ legs) h = absurd h
+  follows_length last walk (RideLeg t b a ∷ []) h = absurd h
   follows_length last walk (Walk w ∷ legs) h = absurd h
 
   follows_in_range : (last : Call) (walk : ℕ) (legs : List Leg) → Follows runs edges r last walk legs → All IsLegInRange legs
   follows_in_range last walk [] h = All-nil IsLegInRange
-  follows_in_range last walk (RideLeg t d b a ∷ Walk w ∷ legs) h =
-      let ride = ride_timely runs t d b a all h.1 in
-      All-cons IsLegInRange (RideLeg t d b a) (Walk w ∷ legs) (ride.departs, ride.arrives) (All-cons IsLegInRange (Walk w) legs tt (follows_in_range a w legs h.2))
-  follows_in_range last walk (RideLeg t d b a ∷ RideLeg t' d' b' a' ∷ legs) h = absurd h
-  follows_in_range last walk (RideLeg t d b a ∷ []) h = absurd h
+  follows_in_range last walk (RideLeg t b a ∷ Walk w ∷ legs) h =
+      let ride = ride_timely runs t b a all h.1 in
+      All-cons IsLegInRange (RideLeg t b a) (Walk w ∷ legs) (ride.departs, ride.arrives) (All-cons IsLegInRange (Walk w) legs tt (follows_in_range a w legs h.2))
+  follows_in_range last walk (RideLeg t b a ∷ RideLeg t' b' a' ∷ legs) h = absurd h
+  follows_in_range last walk (RideLeg t b a ∷ []) h = absurd h
   follows_in_range last walk (Walk w ∷ legs) h = absurd h
 
   -- what follows an alighting arrives no earlier
   follows_arrives : (last : Call) (walk : ℕ) (legs : List Leg) → Follows runs edges r last walk legs → last.arrival ≤ℤ arrival_after (last.arrival +ℤ pos walk) legs
   follows_arrives last walk [] h = omega (arith, ints)
-  follows_arrives last walk (RideLeg t d b a ∷ Walk w ∷ legs) h =
-      at_most_then _ _ _ (change_takes _ _ _ h.0.in_time) (at_most_then _ _ _ (ride_timely runs t d b a all h.1).forward (follows_arrives a w legs h.2))
-  follows_arrives last walk (RideLeg t d b a ∷ RideLeg t' d' b' a' ∷ legs) h = absurd h
-  follows_arrives last walk (RideLeg t d b a ∷ []) h = absurd h
+  follows_arrives last walk (RideLeg t b a ∷ Walk w ∷ legs) h =
+      at_most_then _ _ _ (change_takes _ _ _ h.0.in_time) (at_most_then _ _ _ (ride_timely runs t b a all h.1).forward (follows_arrives a w legs h.2))
+  follows_arrives last walk (RideLeg t b a ∷ RideLeg t' b' a' ∷ legs) h = absurd h
+  follows_arrives last walk (RideLeg t b a ∷ []) h = absurd h
   follows_arrives last walk (Walk w ∷ legs) h = absurd h
 
   -- a journey that ends in a tail of at most 8 rides has a value
   tail_valued : (n : ℕ) (legs : List Leg) → n ≤ 8 → IsTailOf runs edges r n legs → IsValued legs
-  tail_valued n (RideLeg t d b a ∷ Walk w ∷ legs) l h =
-      let ride = ride_timely runs t d b a all h.1.0 in
+  tail_valued n (RideLeg t b a ∷ Walk w ∷ legs) l h =
+      let ride = ride_timely runs t b a all h.1.0 in
       record {
         few = omega (arith, follows_length a w legs h.1.1, h.0);
-        in_range = All-cons IsLegInRange (RideLeg t d b a) (Walk w ∷ legs) (ride.departs, ride.arrives) (All-cons IsLegInRange (Walk w) legs tt (follows_in_range a w legs h.1.1));
+        in_range = All-cons IsLegInRange (RideLeg t b a) (Walk w ∷ legs) (ride.departs, ride.arrives) (All-cons IsLegInRange (Walk w) legs tt (follows_in_range a w legs h.1.1));
         forward = at_most_then _ _ _ ride.forward (follows_arrives a w legs h.1.1);
       }
-  tail_valued n (RideLeg t d b a ∷ RideLeg t' d' b' a' ∷ legs) l h = absurd h.1
-  tail_valued n (RideLeg t d b a ∷ []) l h = absurd h.1
+  tail_valued n (RideLeg t b a ∷ RideLeg t' b' a' ∷ legs) l h = absurd h.1
+  tail_valued n (RideLeg t b a ∷ []) l h = absurd h.1
   tail_valued n (Walk w ∷ legs) l h = absurd h.1
   tail_valued n [] l h = absurd h.1
 
@@ -161,21 +162,21 @@ level_more runs edges r access n tails longer ys zs v e a = record {
 
 module _ (runs : List Run) (edges : Edges) (r : Request) (access : List Reach) (from : AreReached edges r.from access) where
   journey_from_tail : (k : ℕ) (tail : List Leg) (reach : Reach) → k < r.rides → IsTailOf runs edges r (k + 1) tail → Boards reach.stop tail → Contains access reach → IsJourney runs edges r (Walk reach.seconds ∷ tail)
-  journey_from_tail k (RideLeg t d b a ∷ Walk w ∷ legs) reach l h e on =
+  journey_from_tail k (RideLeg t b a ∷ Walk w ∷ legs) reach l h e on =
       (subst (λ (s : ℕ). IsReached edges r.from s reach.seconds) (sym e) ((from reach).0 on), h.1.0, h.1.1, omega (arith, h.0))
-  journey_from_tail k (RideLeg t d b a ∷ RideLeg t' d' b' a' ∷ legs) reach l h e on = absurd h.1
-  journey_from_tail k (RideLeg t d b a ∷ []) reach l h e on = absurd h.1
+  journey_from_tail k (RideLeg t b a ∷ RideLeg t' b' a' ∷ legs) reach l h e on = absurd h.1
+  journey_from_tail k (RideLeg t b a ∷ []) reach l h e on = absurd h.1
   journey_from_tail k (Walk w ∷ legs) reach l h e on = absurd h.1
   journey_from_tail k [] reach l h e on = absurd h.1
 
   offer_from_journey : (legs : List Leg) (v : Value) → IsJourney runs edges r legs → HasValue r legs v → IsInWindow r v → FromBelow (IsOfferWith runs edges r access) r.rides (record { value = v; journey = record { legs = legs } })
-  offer_from_journey (Walk first ∷ RideLeg t d b a ∷ Walk w ∷ legs) v h has in' =
-      (rides_of legs, omega (arith, h.3), (RideLeg t d b a ∷ Walk w ∷ legs, (omega arith, (h.1, h.2)), (record { stop = b.stop; seconds = first }, (from (record { stop = b.stop; seconds = first })).1 h.0, (refl, refl, has, in'))))
-  offer_from_journey (Walk first ∷ RideLeg t d b a ∷ RideLeg t' d' b' a' ∷ legs) v h has in' = absurd h
-  offer_from_journey (Walk first ∷ RideLeg t d b a ∷ []) v h has in' = absurd h
+  offer_from_journey (Walk first ∷ RideLeg t b a ∷ Walk w ∷ legs) v h has in' =
+      (rides_of legs, omega (arith, h.3), (RideLeg t b a ∷ Walk w ∷ legs, (omega arith, (h.1, h.2)), (record { stop = b.stop; seconds = first }, (from (record { stop = b.stop; seconds = first })).1 h.0, (refl, refl, has, in'))))
+  offer_from_journey (Walk first ∷ RideLeg t b a ∷ RideLeg t' b' a' ∷ legs) v h has in' = absurd h
+  offer_from_journey (Walk first ∷ RideLeg t b a ∷ []) v h has in' = absurd h
   offer_from_journey (Walk first ∷ Walk w ∷ legs) v h has in' = absurd h
   offer_from_journey (Walk first ∷ []) v h has in' = absurd h
-  offer_from_journey (RideLeg t d b a ∷ legs) v h has in' = absurd h
+  offer_from_journey (RideLeg t b a ∷ legs) v h has in' = absurd h
   offer_from_journey [] v h has in' = absurd h
 
   pub enough_offers : (n : ℕ) (offers : List Found) → r.rides ≡ n → Adds (FromBelow (IsOfferWith runs edges r access) n) [] offers → AreEnough runs edges r offers

@@ -31,22 +31,22 @@ module _ (runs : List Run) (edges : Edges) (r : Request) where
 
   -- a tail of one ride is a last tail
   pub last_from_tail : (legs : List Leg) → IsTailOf runs edges r 1 legs → (ride : Ride) × IsRideAmong runs ride × ((reach : Reach) × IsReached edges r.to reach.stop reach.seconds × IsLastTail ride reach legs)
-  last_from_tail (RideLeg trip day board alight ∷ Walk seconds ∷ []) h =
-      (record { trip = trip; day = day; board = board; alight = alight }, h.1.0, (record { stop = alight.stop; seconds = seconds }, h.1.1, (refl, refl)))
-  last_from_tail (RideLeg trip day board alight ∷ Walk seconds ∷ RideLeg t d b a ∷ Walk w ∷ legs) h = absurd (omega (arith, h.0))
-  last_from_tail (RideLeg trip day board alight ∷ Walk seconds ∷ RideLeg t d b a ∷ RideLeg t' d' b' a' ∷ legs) h = absurd h.1.1
-  last_from_tail (RideLeg trip day board alight ∷ Walk seconds ∷ RideLeg t d b a ∷ []) h = absurd h.1.1
-  last_from_tail (RideLeg trip day board alight ∷ Walk seconds ∷ Walk w ∷ legs) h = absurd h.1.1
-  last_from_tail (RideLeg trip day board alight ∷ RideLeg t d b a ∷ legs) h = absurd h.1
-  last_from_tail (RideLeg trip day board alight ∷ []) h = absurd h.1
+  last_from_tail (RideLeg name board alight ∷ Walk seconds ∷ []) h =
+      (record { name = name; board = board; alight = alight }, h.1.0, (record { stop = alight.stop; seconds = seconds }, h.1.1, (refl, refl)))
+  last_from_tail (RideLeg name board alight ∷ Walk seconds ∷ RideLeg t b a ∷ Walk w ∷ legs) h = absurd (omega (arith, h.0))
+  last_from_tail (RideLeg name board alight ∷ Walk seconds ∷ RideLeg t b a ∷ RideLeg t' b' a' ∷ legs) h = absurd h.1.1
+  last_from_tail (RideLeg name board alight ∷ Walk seconds ∷ RideLeg t b a ∷ []) h = absurd h.1.1
+  last_from_tail (RideLeg name board alight ∷ Walk seconds ∷ Walk w ∷ legs) h = absurd h.1.1
+  last_from_tail (RideLeg name board alight ∷ RideLeg t b a ∷ legs) h = absurd h.1
+  last_from_tail (RideLeg name board alight ∷ []) h = absurd h.1
   last_from_tail (Walk seconds ∷ legs) h = absurd h.1
   last_from_tail [] h = absurd h.1
 
   follows_from_tail : (ride : Ride) (row : List Edge) (edge : Edge) (tail : List Leg) → slice_get edges.from ride.alight.stop ≡ Some row → Contains row edge → Joins r.slack ride edge tail → IsTail runs edges r tail → Follows runs edges r ride.alight edge.walk tail
-  follows_from_tail ride row edge (RideLeg t d b a ∷ Walk w ∷ legs) row_is on j h =
+  follows_from_tail ride row edge (RideLeg t b a ∷ Walk w ∷ legs) row_is on j h =
       (record { row = row; row_is = row_is; edge = edge; on = on; to_is = j.0; walk_is = refl; in_time = j.1 }, h.0, h.1)
-  follows_from_tail ride row edge (RideLeg t d b a ∷ RideLeg t' d' b' a' ∷ legs) row_is on j h = absurd h
-  follows_from_tail ride row edge (RideLeg t d b a ∷ []) row_is on j h = absurd h
+  follows_from_tail ride row edge (RideLeg t b a ∷ RideLeg t' b' a' ∷ legs) row_is on j h = absurd h
+  follows_from_tail ride row edge (RideLeg t b a ∷ []) row_is on j h = absurd h
   follows_from_tail ride row edge (Walk w ∷ legs) row_is on j h = absurd h
   follows_from_tail ride row edge [] row_is on j h = absurd h
 
@@ -62,10 +62,10 @@ module _ (runs : List Run) (edges : Edges) (r : Request) where
 
   -- a tail of one ride more is longer than another
   pub longer_from_tail : (n : ℕ) (tails : List (List Leg)) (legs : List Leg) → 0 < n → ((t : List Leg) → IsTailOf runs edges r n t → Contains tails t) → IsTailOf runs edges r (n + 1) legs → (ride : Ride) × IsRideAmong runs ride × IsLongerFrom r.slack edges tails ride legs
-  longer_from_tail n tails (RideLeg trip day board alight ∷ Walk seconds ∷ RideLeg t d b a ∷ Walk w ∷ legs) l all h =
+  longer_from_tail n tails (RideLeg name board alight ∷ Walk seconds ∷ RideLeg t b a ∷ Walk w ∷ legs) l all h =
       let transfer : IsTransfer edges r.slack alight b seconds = h.1.1.0 in
-      let tail : List Leg = RideLeg t d b a ∷ Walk w ∷ legs in
-      let ride : Ride = record { trip = trip; day = day; board = board; alight = alight } in (
+      let tail : List Leg = RideLeg t b a ∷ Walk w ∷ legs in
+      let ride : Ride = record { name = name; board = board; alight = alight } in (
         ride,
         h.1.0,
         (
@@ -74,15 +74,15 @@ module _ (runs : List Run) (edges : Edges) (r : Request) where
           (
             tail,
             all tail (omega (arith, h.0), (h.1.1.1, h.1.1.2)),
-            (transfer.edge, transfer.on, ((transfer.to_is, subst (λ (x : ℕ). (alight.arrival +ℤ pos (max (x + r.slack) transfer.edge.minimum)) ≤ℤ b.departure) (sym transfer.walk_is) transfer.in_time), ap (λ (x : ℕ). RideLeg trip day board alight ∷ Walk x ∷ RideLeg t d b a ∷ Walk w ∷ legs) (sym transfer.walk_is))),
+            (transfer.edge, transfer.on, ((transfer.to_is, subst (λ (x : ℕ). (alight.arrival +ℤ pos (max (x + r.slack) transfer.edge.minimum)) ≤ℤ b.departure) (sym transfer.walk_is) transfer.in_time), ap (λ (x : ℕ). RideLeg name board alight ∷ Walk x ∷ RideLeg t b a ∷ Walk w ∷ legs) (sym transfer.walk_is))),
           ),
         ),
       )
-  longer_from_tail n tails (RideLeg trip day board alight ∷ Walk seconds ∷ []) l all h = absurd (omega (arith, h.0))
-  longer_from_tail n tails (RideLeg trip day board alight ∷ Walk seconds ∷ RideLeg t d b a ∷ RideLeg t' d' b' a' ∷ legs) l all h = absurd h.1.1
-  longer_from_tail n tails (RideLeg trip day board alight ∷ Walk seconds ∷ RideLeg t d b a ∷ []) l all h = absurd h.1.1
-  longer_from_tail n tails (RideLeg trip day board alight ∷ Walk seconds ∷ Walk w ∷ legs) l all h = absurd h.1.1
-  longer_from_tail n tails (RideLeg trip day board alight ∷ RideLeg t d b a ∷ legs) l all h = absurd h.1
-  longer_from_tail n tails (RideLeg trip day board alight ∷ []) l all h = absurd h.1
+  longer_from_tail n tails (RideLeg name board alight ∷ Walk seconds ∷ []) l all h = absurd (omega (arith, h.0))
+  longer_from_tail n tails (RideLeg name board alight ∷ Walk seconds ∷ RideLeg t b a ∷ RideLeg t' b' a' ∷ legs) l all h = absurd h.1.1
+  longer_from_tail n tails (RideLeg name board alight ∷ Walk seconds ∷ RideLeg t b a ∷ []) l all h = absurd h.1.1
+  longer_from_tail n tails (RideLeg name board alight ∷ Walk seconds ∷ Walk w ∷ legs) l all h = absurd h.1.1
+  longer_from_tail n tails (RideLeg name board alight ∷ RideLeg t b a ∷ legs) l all h = absurd h.1
+  longer_from_tail n tails (RideLeg name board alight ∷ []) l all h = absurd h.1
   longer_from_tail n tails (Walk seconds ∷ legs) l all h = absurd h.1
   longer_from_tail n tails [] l all h = absurd h.1

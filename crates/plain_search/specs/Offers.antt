@@ -18,7 +18,7 @@ use Rattle.plain_search.specs.Tails.{IsTailOf}
 abbrev pub Boards : ℕ → List Leg → Type 0
 Boards stop [] = ⊥
 Boards stop (leg.Walk seconds ∷ legs) = ⊥
-Boards stop (leg.Ride trip day board alight ∷ legs) = board.stop ≡ stop
+Boards stop (leg.Ride name board alight ∷ legs) = board.stop ≡ stop
 
 -- a walk to the first stop of a tail, with the tail, has this value and departs in the window
 abbrev pub IsOffer : Request → List Leg → Reach → Found → Type 0
@@ -33,7 +33,7 @@ IsOfferBy r access tail found = FromSome (IsOffer r tail) access found
 abbrev pub ArrivesAfter : List Leg → Type 0
 ArrivesAfter [] = Unit {0}
 ArrivesAfter (leg.Walk seconds ∷ legs) = Unit {0}
-ArrivesAfter (leg.Ride trip day board alight ∷ legs) = board.departure ≤ℤ arrival_after alight.arrival legs
+ArrivesAfter (leg.Ride name board alight ∷ legs) = board.departure ≤ℤ arrival_after alight.arrival legs
 
 -- few legs with times in range, so that a journey that ends in them has a value
 pub record IsValued (legs : List Leg) : Type 0 where

@@ -13,7 +13,7 @@ use Rattle.otp_base.specs.Adds.{FromSome}
 
 -- a ride and a walk before other legs
 abbrev pub legs_before : Ride → ℕ → List Leg → List Leg
-legs_before ride seconds legs = leg.Ride ride.trip ride.day ride.board ride.alight ∷ leg.Walk seconds ∷ legs
+legs_before ride seconds legs = leg.Ride ride.name ride.board ride.alight ∷ leg.Walk seconds ∷ legs
 
 -- a last ride, and the walk to the place of arrival from its stop
 abbrev pub IsLastTail : Ride → Reach → List Leg → Type 0
@@ -23,7 +23,7 @@ IsLastTail ride reach legs = (ride.alight.stop ≡ reach.stop) × (legs ≡ legs
 abbrev pub Joins : ℕ → Ride → Edge → List Leg → Type 0
 Joins slack ride edge [] = ⊥
 Joins slack ride edge (leg.Walk seconds ∷ legs) = ⊥
-Joins slack ride edge (leg.Ride trip day board alight ∷ legs) =
+Joins slack ride edge (leg.Ride name board alight ∷ legs) =
     (edge.to ≡ board.stop) × ((ride.alight.arrival +ℤ pos (max (edge.walk + slack) edge.minimum)) ≤ℤ board.departure)
 
 -- a ride, and the walk of an edge that joins it to the legs
@@ -40,7 +40,7 @@ IsLongerFrom slack edges tails ride legs = (row : List Edge) × (slice_get edges
 
 -- the legs of a journey from a ride on
 abbrev pub IsTail : List Run → Edges → Request → List Leg → Type 0
-IsTail runs edges r (leg.Ride trip day board alight ∷ leg.Walk seconds ∷ legs) = IsRide runs trip day board alight × Follows runs edges r alight seconds legs
+IsTail runs edges r (leg.Ride name board alight ∷ leg.Walk seconds ∷ legs) = IsRide runs name board alight × Follows runs edges r alight seconds legs
 IsTail runs edges r _ = ⊥
 
 -- with so many rides

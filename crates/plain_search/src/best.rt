@@ -1,7 +1,6 @@
-ghost use Rattle.std.specs.Prelude.{◌<◌, ◌≤◌, ◌^◌, IfOk, length};
+ghost use Rattle.std.specs.Prelude.{IfOk};
 ghost use Rattle.std.specs.List.{All};
-ghost use Rattle.otp_model.specs.Plane.{IsPlaceOf};
-ghost use Rattle.otp_model.specs.Ranges.{IsRequestInRange, IsTimely};
+ghost use Rattle.otp_model.specs.Ranges.{CanSearch, IsRequestInRange, IsTimely};
 ghost use Rattle.otp_model.specs.Whole.{IsWhole};
 ghost use Rattle.pareto_front.specs.Front.{AreEnough};
 ghost use Rattle.walk_table.specs.Reaches.{AreReached};
@@ -23,13 +22,7 @@ pub fn all_best(
     edges: &Edges,
     request: &Request,
 ) -> Result<Vec<Found>, Memory>
-    requires runs { All IsTimely runs.now }
-    requires request { IsRequestInRange request.now }
-    requires reach { edges.now.profile.reach ≤ 5000000 }
-    requires speed { 0 < edges.now.profile.speed }
-    requires stops { length edges.now.stops < 2 ^ 32 }
-    requires from { IsPlaceOf edges.now.stops request.now.from }
-    requires to { IsPlaceOf edges.now.stops request.now.to }
+    requires { CanSearch runs.now edges.now request.now }
     ensures { IfOk result (λ list. IsWhole runs.now edges.now request.now list.items) }
 {
     let access = reach_of(alloc, edges, &request.from)?;

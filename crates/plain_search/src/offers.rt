@@ -4,6 +4,7 @@ ghost use Rattle.otp_base.specs.Adds.{Adds, FromSome, IsOnly};
 ghost use Rattle.otp_model.specs.Ranges.{IsRequestInRange};
 ghost use Rattle.plain_search.specs.Offers.{Boards, IsOffer, IsOfferBy, IsValued};
 
+use crate::tails::push_legs;
 use otp_base::{List, Memory, push_some};
 use otp_model::{Found, Journey, Leg, Request, StopNo, value_of};
 use std::alloc::Global;
@@ -82,7 +83,7 @@ fn journey_of(alloc: Global, seconds: u32, tail: &[Leg]) -> Result<Journey, Memo
 {
     let mut legs = Vec::new(alloc);
     legs.push(Leg::Walk { seconds })?;
-    legs.extend_from_slice(tail)?;
+    push_legs(alloc, &mut legs, tail)?;
     Ok(Journey {
         legs: List::from_vec(legs),
     })

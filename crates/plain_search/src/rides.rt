@@ -4,14 +4,13 @@ ghost use Rattle.otp_base.specs.Adds.{Adds, IsOnly};
 ghost use Rattle.plain_search.specs.Rides.{IsRideAmong, IsRideBetween, IsRideFrom, IsRideIn};
 
 use otp_base::{Memory, push_some};
-use otp_model::{Call, DayNo, Run, TripNo};
+use otp_model::{Call, Run, RunName};
 use std::alloc::Global;
 
 /// A ride of the schedule.
-#[derive(Clone, Copy, Debug)]
+#[derive(Debug, Drop)]
 pub struct Ride {
-    pub trip: TripNo,
-    pub day: DayNo,
+    pub name: RunName,
     pub board: Call,
     pub alight: Call,
 }
@@ -22,49 +21,54 @@ pub fn rides_of(alloc: Global, runs: &[Run]) -> Result<Vec<Ride>, Memory>
 {
     let mut rides = Vec::new(alloc);
     for run in runs {
-        add_rides_in(run, &mut rides)?;
+        add_rides_in(alloc, run, &mut rides)?;
     }
     Ok(rides)
 }
 
 /// Adds the rides of a run.
-fn add_rides_in(run: &Run, rides: &mut Vec<Ride>) -> Result<(), Memory>
+fn add_rides_in(alloc: Global, run: &Run, rides: &mut Vec<Ride>) -> Result<(), Memory>
     ensures { OnOk result (Adds (IsRideIn run.now) rides.old.items rides.new.items) }
 {
     for from in 0..run.calls.len() {
-        add_rides_from(run, from, rides)?;
+        add_rides_from(alloc, run, from, rides)?;
     }
     Ok(())
 }
 
 /// Adds the rides of a run that board at a place.
-fn add_rides_from(run: &Run, from: usize, rides: &mut Vec<Ride>) -> Result<(), Memory>
+fn add_rides_from(alloc: Global, run: &Run, from: usize, rides: &mut Vec<Ride>) -> Result<(), Memory>
     requires { from < length run.now.calls }
     ensures { OnOk result (Adds (IsRideFrom run.now from) rides.old.items rides.new.items) }
 {
     let count = run.calls.len();
     for to in from + 1..count {
-        push_some(rides, ride_between(run, from, to))?;
+        push_some(rides, ride_between(alloc, run, from, to)?)?;
     }
     Ok(())
 }
 
 /// The ride from one call of a run to a later one, if both are allowed.
-fn ride_between(run: &Run, from: usize, to: usize) -> Option<Ride>
+fn ride_between(
+    alloc: Global,
+    run: &Run,
+    from: usize,
+    to: usize,
+) -> Result<Option<Ride>, Memory>
     requires before { from < to }
     requires within { to < length run.now.calls }
-    ensures { IsOnly (IsRideBetween run.now from to) result }
+    ensures { IfOk result (IsOnly (IsRideBetween run.now from to)) }
 {
     let calls = run.calls.as_slice();
     let board = calls[from];
     let alight = calls[to];
     if !board.board || !alight.alight {
-        return None;
+        return Ok(None);
     }
-    Some(Ride {
-        trip: run.trip,
-        day: run.day,
+    let name = run.name.copy(alloc)?;
+    Ok(Some(Ride {
+        name,
         board,
         alight,
-    })
+    }))
 }

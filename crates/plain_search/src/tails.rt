@@ -1,4 +1,4 @@
-ghost use Rattle.std.specs.Prelude.{◌+◌, max, pos, ◌+ℤ◌, ◌≤ℤ◌, ◌≡◌, ◌↔◌, IfOk, IsTrue, OnOk};
+ghost use Rattle.std.specs.Prelude.{◌+◌, max, pos, ◌+ℤ◌, ◌≤ℤ◌, ◌≡◌, ◌↔◌, ◌++◌, IfOk, IsTrue, OnOk};
 ghost use Rattle.std.specs.List.{Contains};
 ghost use Rattle.otp_base.specs.Adds.{Adds, FromSome, IsOnly};
 ghost use Rattle.plain_search.specs.Tails.{IsLastTail, IsLonger, IsLongerBy, IsLongerFrom, Joins, legs_before};
@@ -49,16 +49,26 @@ fn last_tail(alloc: Global, ride: &Ride, reach: &Reach) -> Result<Option<List<Le
 fn legs_before(alloc: Global, ride: &Ride, seconds: u32, tail: &[Leg]) -> Result<List<Leg>, Memory>
     ensures { IfOk result (λ legs. legs ≡ legs_before ride.now seconds tail.now) }
 {
+    let name = ride.name.copy(alloc)?;
     let mut legs = Vec::new(alloc);
     legs.push(Leg::Ride {
-        trip: ride.trip,
-        day: ride.day,
+        name,
         board: ride.board,
         alight: ride.alight,
     })?;
     legs.push(Leg::Walk { seconds })?;
-    legs.extend_from_slice(tail)?;
+    push_legs(alloc, &mut legs, tail)?;
     Ok(List::from_vec(legs))
+}
+
+/// Adds copies of the legs at the end.
+pub fn push_legs(alloc: Global, legs: &mut Vec<Leg>, more: &[Leg]) -> Result<(), Memory>
+    ensures { OnOk result (legs.new.items ≡ legs.old.items ++ more.now) }
+{
+    for leg in more {
+        legs.push(leg.copy(alloc)?)?;
+    }
+    Ok(())
 }
 
 /// All ends of journeys with one ride more.

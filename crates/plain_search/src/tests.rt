@@ -1,11 +1,10 @@
-ghost use Rattle.std.specs.Prelude.{IsTrue};
-ghost use Rattle.std.specs.List.{All};
-ghost use Rattle.otp_model.specs.Ranges.{IsTimely};
-
 use crate::all_best;
 use otp_base::{List, Text};
-use otp_model::{Call, Edge, Edges, Found, Leg, Place, Profile, Request, Run, Stop, StopNo, Value};
+use otp_model::{
+    Call, Edge, Edges, Found, Leg, Place, Profile, Request, Run, RunName, Stop, StopNo, TripName, Value,
+};
 use std::alloc::Global;
+use std::cmp::Ordering;
 use std::process::Abort;
 use std::test::Fail;
 
@@ -28,11 +27,18 @@ fn call(stop: StopNo, time: i64) -> Call {
     }
 }
 
+fn name_of(trip: u32) -> RunName {
+    RunName {
+        trip: TripName::Planned(trip),
+        day: 0,
+        start: None,
+    }
+}
+
 fn run(alloc: Global, trip: u32, calls: &[Call]) -> Result<Run, Fail> {
     let calls = List::from_vec(Vec::from_slice(alloc, calls)?);
     Ok(Run {
-        trip,
-        day: 0,
+        name: name_of(trip),
         calls,
     })
 }
@@ -125,17 +131,6 @@ fn value(departure: i64, arrival: i64, rides: u32, cost: u64) -> Value {
     }
 }
 
-fn are_timely(runs: &[Run]) -> bool
-    ensures { IsTrue result → All IsTimely runs.now }
-{
-    for run in runs {
-        if !run.is_timely() {
-            return false;
-        }
-    }
-    true
-}
-
 fn search(
     rt: &impl Abort,
     alloc: Global,
@@ -143,16 +138,10 @@ fn search(
     edges: &Edges,
     request: &Request,
 ) -> Result<Vec<Found>, Fail> {
-    if !are_timely(runs) {
-        assert!(rt; false, "the runs are not timely");
+    if !request.can_search(runs, edges) {
+        assert!(rt; false, "what is searched is out of range");
         return Ok(Vec::new(alloc));
     }
-    assert!(rt; request.is_in_range());
-    assert!(rt; edges.profile.reach <= 5_000_000 && edges.profile.speed > 0);
-    let stops = edges.stops.as_slice();
-    assert!(rt; stops.len() < 100);
-    assert!(rt; request.from.is_of(stops));
-    assert!(rt; request.to.is_of(stops));
     Ok(all_best(alloc, runs, edges, request)?)
 }
 
@@ -376,23 +365,28 @@ fn tells_the_legs(rt: HostRuntime) -> Result<(), Fail> {
     let edges = edges(alloc, 0)?;
     let found = search(&rt, alloc, &runs, &edges, &a_to_d())?;
     assert_eq!(rt; found.len(), 2);
-    let legs = [
+    let [
         Leg::Walk { seconds: 0 },
         Leg::Ride {
-            trip: 0,
-            day: 0,
-            board: call(A, 28_800),
-            alight: call(B, 29_400),
+            name: first,
+            alight,
+            ..
         },
         Leg::Walk { seconds: 419 },
         Leg::Ride {
-            trip: 1,
-            day: 0,
-            board: call(C, 30_000),
-            alight: call(D, 30_600),
+            name: second,
+            board,
+            ..
         },
         Leg::Walk { seconds: 0 },
-    ];
-    assert_eq!(rt; found[0].journey.legs.as_slice(), legs.as_slice());
+    ] = found[0].journey.legs.as_slice()
+    else {
+        assert!(rt; false, "other legs");
+        return Ok(());
+    };
+    assert_eq!(rt; first.compare(&name_of(0)), Ordering::Equal);
+    assert_eq!(rt; *alight, call(B, 29_400));
+    assert_eq!(rt; second.compare(&name_of(1)), Ordering::Equal);
+    assert_eq!(rt; *board, call(C, 30_000));
     Ok(())
 }

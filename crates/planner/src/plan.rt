@@ -1,7 +1,6 @@
-ghost use Rattle.std.specs.Prelude.{◌≡◌, ◌↔◌, ◌<◌, ◌≤◌, ◌^◌, IfOk, IsTrue, length, take};
+ghost use Rattle.std.specs.Prelude.{◌≡◌, ◌↔◌, ◌<◌, IfOk, IsTrue, length, take};
 ghost use Rattle.std.specs.List.{All};
-ghost use Rattle.otp_model.specs.Plane.{IsPlaceOf};
-ghost use Rattle.otp_model.specs.Ranges.{IsRequestInRange, IsTimely};
+ghost use Rattle.otp_model.specs.Ranges.{CanSearch};
 ghost use Rattle.otp_model.specs.Whole.{IsPage, left_of};
 ghost use Rattle.walk_table.specs.Direct.{IsDirect};
 ghost use Rattle.planner.specs.Entries.{IsEntry};
@@ -21,13 +20,7 @@ pub fn plan_runs(
     edges: &Edges,
     request: &Request,
 ) -> Result<Page, Memory>
-    requires runs { All IsTimely runs.now }
-    requires request { IsRequestInRange request.now }
-    requires reach { edges.now.profile.reach ≤ 5000000 }
-    requires speed { 0 < edges.now.profile.speed }
-    requires stops { length edges.now.stops < 2 ^ 32 }
-    requires from { IsPlaceOf edges.now.stops request.now.from }
-    requires to { IsPlaceOf edges.now.stops request.now.to }
+    requires { CanSearch runs.now edges.now request.now }
     ensures page { IfOk result (λ page. IsPage runs.now edges.now request.now page.found page.more) }
     ensures direct { IfOk result (λ page. IsDirect edges.now request.now.from request.now.to page.direct) }
     // Each entry of the page is a journey of the runs that departs in the window, with its value.

@@ -8,7 +8,7 @@ use Rattle.plain_search.proofs.rides.add_rides_from.Goals as goal
 pub loop-to-preserved : goal.loop-to-preserved
 loop-to-preserved c =
     let R : ℕ → Ride → Type 0 = IsRideBetween c.args.run.now c.args.from in
-    adds_more_below R c.loop-to.to _ _ _ c.loop-to.invariant (adds_option (R c.loop-to.to) _ _ _ c.in_ok-push_some.ensures c.ride_between.ensures)
+    adds_more_below R c.loop-to.to _ _ _ c.loop-to.invariant (adds_option (R c.loop-to.to) _ _ _ c.in_ok-push_some.ensures c.in_ok-ride_between.ensures)
 
 pub returns : goal.returns
 returns c = adds_from_all c.args.run.now c.args.from c.loop-to.to _ _ (omega arith) c.loop-to.invariant
