@@ -10,7 +10,9 @@ use Rattle.pb_wire.specs.declared.field.FieldValue.{FieldValue}
 use Rattle.pb_wire.specs.declared.field.FieldValue.TheVariants as value
 use Rattle.std.specs.List.{All, AllByRecursion}
 use Rattle.std.proofs.lemmas.List.Elements.{All-from_recursion}
-use Rattle.pb_wire.specs.Cutting.{◌>>=◌, Gives, OrMemory, field_at, cut_in, cut}
+use Rattle.otp_base.specs.Answers.{Gives, OrMemory}
+use Rattle.otp_base.specs.Results.{◌>>=◌}
+use Rattle.pb_wire.specs.Cutting.{told_of, field_at, cut_in, cut}
 use Rattle.pb_wire.proofs.Steps.{bind_ok, bind_err, ok_is}
 use Rattle.pb_wire.proofs.FieldLaws.{field_takes, field_again, field_fails, field_fails_again, field_shorter, front_length}
 use Rattle.pb_wire.proofs.CutLoop.{cut_step, cut_stops}
@@ -116,11 +118,11 @@ cut_fails_again at bytes e h =
     let few : length (h.front ++ h.rest) ≤ length bytes = omega (arith, ap length bytes_is) in
     ap (λ z. cut_in (length bytes) at z) bytes_is ∙ fails_again h.before (length bytes) at h.front h.rest e h.spelt h.more h.wrong few
 
-pub is_found : (at : ℕ) (bytes : List ℕ) (r : Result (Vec Field) WireFault) → Gives (λ v. v.items) r (cut at bytes) → IfOk r (λ v. Spells at v.items bytes)
+pub is_found : (at : ℕ) (bytes : List ℕ) (r : Result (Vec Field) WireFault) → Gives (λ v. v.items) told_of r (cut at bytes) → IfOk r (λ v. Spells at v.items bytes)
 is_found at bytes (Ok v) given = cut_takes at bytes v.items given
 is_found at bytes (Err e) given = tt
 
-pub is_fault : (at : ℕ) (bytes : List ℕ) (r : Result (Vec Field) WireFault) → Gives (λ v. v.items) r (cut at bytes) → IfErr r (OrMemory (IsFirstFault at bytes))
+pub is_fault : (at : ℕ) (bytes : List ℕ) (r : Result (Vec Field) WireFault) → Gives (λ v. v.items) told_of r (cut at bytes) → IfErr r (OrMemory told_of (IsFirstFault at bytes))
 is_fault at bytes (Ok v) given = tt
 is_fault at bytes (Err (fault.Cut a)) given = cut_fails at bytes (fault.Cut a) given
 is_fault at bytes (Err (fault.LongVarint a)) given = cut_fails at bytes (fault.LongVarint a) given
@@ -150,7 +152,7 @@ lies (f ∷ fs) low high at bytes p q h =
     let rest_high : at + length h.0 + length h.1 ≤ high = omega arith in
     (part_lies low high (at + length h.3.tag) f.value h.3.rest value_low value_high h.3.says, lies fs low high (at + length h.0) h.1 rest_low rest_high h.4)
 
-pub is_within : (at : ℕ) (bytes : List ℕ) (r : Result (Vec Field) WireFault) → Gives (λ v. v.items) r (cut at bytes) → IfOk r (λ v. All (LiesWithin at (at + length bytes)) v.items)
+pub is_within : (at : ℕ) (bytes : List ℕ) (r : Result (Vec Field) WireFault) → Gives (λ v. v.items) told_of r (cut at bytes) → IfOk r (λ v. All (LiesWithin at (at + length bytes)) v.items)
 is_within at bytes (Ok v) given =
     let low : at ≤ at = omega arith in
     let high : at + length bytes ≤ at + length bytes = omega arith in

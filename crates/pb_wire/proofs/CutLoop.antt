@@ -4,7 +4,9 @@ use Rattle.std.proofs.lemmas.List.{append-nil}
 use Rattle.pb_wire.specs.declared.field.Field.{Field}
 use Rattle.pb_wire.specs.declared.field.WireFault.{WireFault}
 use Rattle.pb_wire.specs.declared.field.WireFault.TheVariants as fault
-use Rattle.pb_wire.specs.Cutting.{◌>>=◌, OrMemory, field_at, cut_in, cut}
+use Rattle.otp_base.specs.Answers.{OrMemory}
+use Rattle.otp_base.specs.Results.{◌>>=◌}
+use Rattle.pb_wire.specs.Cutting.{told_of, field_at, cut_in, cut}
 use Rattle.pb_wire.proofs.FieldLaws.{field_shorter}
 
 -- the fields found so far, and those of the rest
@@ -81,7 +83,7 @@ unfolding cut_in
 cut_is_done done n here rest total none so_far = sym so_far ∙ ap (λ z. with_front done (cut_in n here z)) none ∙ ap Ok (append-nil done)
 
 -- what holds of a fault holds of it also where memory is left out
-pub or_memory : (P : WireFault → Type 0) (e : WireFault) → P e → OrMemory P e
+pub or_memory : (P : WireFault → Type 0) (e : WireFault) → P e → OrMemory told_of P e
 or_memory P (fault.Cut a) h = h
 or_memory P (fault.LongVarint a) h = h
 or_memory P (fault.Group a) h = h

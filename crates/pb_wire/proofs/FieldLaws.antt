@@ -7,7 +7,8 @@ use Rattle.pb_wire.specs.declared.field.FieldValue.TheVariants as value
 use Rattle.pb_wire.specs.declared.field.WireFault.{WireFault}
 use Rattle.pb_wire.specs.declared.field.WireFault.TheVariants as fault
 use Rattle.pb_wire.specs.Wire.{IsVarint, IsValue, wire_type, IsField, WrongField, wrong_tag, wrong_number, wrong_value}
-use Rattle.pb_wire.specs.Cutting.{◌>>=◌, varint_at, value_at, field_from, field_at}
+use Rattle.otp_base.specs.Results.{◌>>=◌}
+use Rattle.pb_wire.specs.Cutting.{varint_at, value_at, field_from, field_at}
 use Rattle.pb_wire.proofs.Steps.{bind_ok, bind_err, chosen, ok_is, err_is}
 use Rattle.pb_wire.proofs.VarintLaws.{varint_takes, varint_again, varint_fails, varint_fails_again, varint_length}
 use Rattle.pb_wire.proofs.ValueLaws.{value_takes, value_again, value_fails, value_fails_again, eqb_not}

@@ -1,6 +1,6 @@
 -- What a step by step reading says of its steps.
 use Rattle.std.proofs.Common.{◌≡◌, Bool, true, false, cond, Result, Ok, Err, refl, ap, ◌⊎◌, inl, inr}
-use Rattle.pb_wire.specs.Cutting.{◌>>=◌}
+use Rattle.otp_base.specs.Results.{◌>>=◌}
 
 -- the value of a step that did not fail
 pub bind_ok : {A B E : Type 0} (r : Result A E) (f : A → Result B E) (y : B) → (r >>= f) ≡ Ok y → (x : A) × (r ≡ Ok x) × (f x ≡ Ok y)

@@ -8,7 +8,8 @@ use Rattle.pb_wire.specs.declared.field.FieldValue.TheVariants as value
 use Rattle.pb_wire.specs.declared.field.WireFault.{WireFault}
 use Rattle.pb_wire.specs.declared.field.WireFault.TheVariants as fault
 use Rattle.pb_wire.specs.Wire.{IsVarint, IsPart, IsValue, wire_type, IsShort, WrongValue, wrong_varint, wrong_eight, wrong_length, wrong_part, wrong_four, wrong_kind}
-use Rattle.pb_wire.specs.Cutting.{◌>>=◌, varint_at, eight_at, four_at, part_from, part_at, value_at}
+use Rattle.otp_base.specs.Results.{◌>>=◌}
+use Rattle.pb_wire.specs.Cutting.{varint_at, eight_at, four_at, part_from, part_at, value_at}
 use Rattle.pb_wire.proofs.Steps.{bind_ok, bind_err, chosen, ok_is, err_is}
 use Rattle.pb_wire.proofs.VarintLaws.{varint_takes, varint_again, varint_fails, varint_fails_again}
 

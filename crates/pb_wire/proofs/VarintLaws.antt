@@ -5,7 +5,8 @@ use Rattle.std.specs.Prelude.{nat_lt}
 use Rattle.pb_wire.specs.declared.field.WireFault.{WireFault}
 use Rattle.pb_wire.specs.declared.field.WireFault.TheVariants as fault
 use Rattle.pb_wire.specs.Wire.{StandsFor, IsVarint, GoOn, WrongVarint}
-use Rattle.pb_wire.specs.Cutting.{◌>>=◌, varint_in, varint_at}
+use Rattle.otp_base.specs.Results.{◌>>=◌}
+use Rattle.pb_wire.specs.Cutting.{varint_in, varint_at}
 use Rattle.pb_wire.proofs.Steps.{bind_ok, bind_err, chosen, ok_is, err_is}
 
 stands_more : (b n high : ℕ) (bs : List ℕ) → 128 ≤ b → n + 128 ≡ b + 128 * high → StandsFor bs high → StandsFor (b ∷ bs) n

@@ -5,7 +5,8 @@ use Rattle.std.proofs.lemmas.Nat.{mul-mod_first}
 use Rattle.std.proofs.lemmas.Bool.{lt-ltb, le-ltb}
 use Rattle.pb_wire.specs.declared.field.WireFault.{WireFault}
 use Rattle.pb_wire.specs.declared.field.WireFault.TheVariants as fault
-use Rattle.pb_wire.specs.Cutting.{◌>>=◌, varint_in, varint_at}
+use Rattle.otp_base.specs.Results.{◌>>=◌}
+use Rattle.pb_wire.specs.Cutting.{varint_in, varint_at}
 
 -- the number so far, and the rest of it from this place on
 abbrev pub more : ℕ → ℕ → ℕ → Result (ℕ × List ℕ) WireFault → Result (ℕ × List ℕ) WireFault

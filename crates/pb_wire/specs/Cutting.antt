@@ -1,34 +1,25 @@
 -- Bytes cut into fields from the front, by functions on lists: a value and the bytes after it, or the first fault.
-use Rattle.std.specs.Prelude.{◌≡◌, ℕ, zero, suc, ◌+◌, ◌-◌, ◌*◌, ◌/◌, ◌%◌, ◌^◌, List, [], ◌∷◌, length, take, drop, Result, Ok, Err, nat_lt, ◌==◌, if◌then◌else◌}
+use Rattle.std.specs.Prelude.{◌≡◌, ℕ, zero, suc, ◌+◌, ◌-◌, ◌*◌, ◌/◌, ◌%◌, ◌^◌, List, [], ◌∷◌, length, take, drop, Option, Some, None, Result, Ok, Err, nat_lt, ◌==◌, if◌then◌else◌}
 use Rattle.std.specs.Int.{w32, w64, from_le_bytes}
+use Rattle.otp_base.specs.Results.{◌>>=◌}
 use Rattle.pb_wire.specs.declared.field.Field.{Field}
 use Rattle.pb_wire.specs.declared.field.FieldValue.{FieldValue}
 use Rattle.pb_wire.specs.declared.field.FieldValue.TheVariants as value
 use Rattle.pb_wire.specs.declared.field.WireFault.{WireFault}
 use Rattle.pb_wire.specs.declared.field.WireFault.TheVariants as fault
 
-infixl 10 ◌>>=◌
-abbrev pub ◌>>=◌ : {A B E : Type 0} → Result A E → (A → Result B E) → Result B E
-(Ok x) >>= f = f x
-(Err e) >>= f = Err e
-
 -- what a function returned, seen by view, is what reading gives
 abbrev pub Is : {X Y : Type 0} → (X → Y) → Result X WireFault → Result Y WireFault → Type 0
 Is view (Ok x) read = read ≡ Ok (view x)
 Is view (Err e) read = read ≡ Err e
 
--- a fact of each fault but that of memory
-abbrev pub OrMemory : (WireFault → Type 0) → WireFault → Type 0
-OrMemory P (fault.Cut a) = P (fault.Cut a)
-OrMemory P (fault.LongVarint a) = P (fault.LongVarint a)
-OrMemory P (fault.Group a) = P (fault.Group a)
-OrMemory P (fault.ZeroField a) = P (fault.ZeroField a)
-OrMemory P fault.Memory = Unit {0}
-
--- the same, unless memory ran out
-abbrev pub Gives : {X Y : Type 0} → (X → Y) → Result X WireFault → Result Y WireFault → Type 0
-Gives view (Ok x) read = read ≡ Ok (view x)
-Gives view (Err e) read = OrMemory (λ f. read ≡ Err f) e
+-- each fault tells itself, but want of memory
+abbrev pub told_of : WireFault → Option WireFault
+told_of (fault.Cut a) = Some (fault.Cut a)
+told_of (fault.LongVarint a) = Some (fault.LongVarint a)
+told_of (fault.Group a) = Some (fault.Group a)
+told_of (fault.ZeroField a) = Some (fault.ZeroField a)
+told_of fault.Memory = None
 
 -- a varint of at most so many bytes
 unfoldable pub varint_in : ℕ → ℕ → List ℕ → Result (ℕ × List ℕ) WireFault

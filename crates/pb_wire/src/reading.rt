@@ -1,7 +1,8 @@
 ghost use Rattle.std.specs.Prelude.{◌≡◌, ◌↔◌, ℕ, ◌+◌, ◌<◌, ◌≤◌, ◌^◌, List, length, IfOk, IfErr, Ok, Err};
 ghost use Rattle.pb_wire.specs.Wire.{Spells, IsFirstFault, LiesWithin};
 ghost use Rattle.std.specs.List.{All};
-ghost use Rattle.pb_wire.specs.Cutting.{Is, Gives, OrMemory, varint_at, eight_at, four_at, part_at, value_at, field_at, cut};
+ghost use Rattle.otp_base.specs.Answers.{Gives, OrMemory};
+ghost use Rattle.pb_wire.specs.Cutting.{Is, told_of, varint_at, eight_at, four_at, part_at, value_at, field_at, cut};
 ghost use Rattle.pb_wire.specs.declared.field.Field.{Field};
 ghost use Rattle.pb_wire.specs.declared.field.WireFault.{WireFault};
 
@@ -113,7 +114,7 @@ fn field(at: usize, bytes: &[u8]) -> Result<(Field, &[u8]), WireFault>
 
 fn all(alloc: Global, at: usize, bytes: &[u8]) -> Result<Vec<Field>, WireFault>
     requires { at + length bytes.now < 2 ^ 64 }
-    ensures { Gives (λ v. v.items) result (cut at bytes.now) }
+    ensures { Gives (λ v. v.items) told_of result (cut at bytes.now) }
 {
     let mut found = Vec::new(alloc);
     let mut rest = bytes;
@@ -132,15 +133,15 @@ pub fn fields_at(alloc: Global, at: usize, bytes: &[u8]) -> Result<Vec<Field>, W
     // What is found spells the bytes.
     ensures found { IfOk result (λ v. Spells at v.items bytes.now) }
     // What spells the bytes is found, unless memory runs out.
-    ensures only { (fs : List Field) → Spells at fs bytes.now → Gives (λ v. v.items) result (Ok fs) }
+    ensures only { (fs : List Field) → Spells at fs bytes.now → Gives (λ v. v.items) told_of result (Ok fs) }
     // A fault is the first one.
-    ensures fault { IfErr result (OrMemory (IsFirstFault at bytes.now)) }
+    ensures fault { IfErr result (OrMemory told_of (IsFirstFault at bytes.now)) }
     // The first fault is answered, unless memory runs out.
-    ensures first { (e : WireFault) → IsFirstFault at bytes.now e → Gives (λ v. v.items) result (Err e) }
+    ensures first { (e : WireFault) → IsFirstFault at bytes.now e → Gives (λ v. v.items) told_of result (Err e) }
     // Ranges lie within the bytes.
     ensures within { IfOk result (λ v. All (LiesWithin at (at + length bytes.now)) v.items) }
     // The same by the function that cuts lists.
-    ensures exact { Gives (λ v. v.items) result (cut at bytes.now) }
+    ensures exact { Gives (λ v. v.items) told_of result (cut at bytes.now) }
 {
     all(alloc, at, bytes)
 }
@@ -150,11 +151,11 @@ pub fn fields(alloc: Global, bytes: &[u8]) -> Result<Vec<Field>, WireFault>
     // What is found spells the bytes.
     ensures found { IfOk result (λ v. Spells 0 v.items bytes.now) }
     // What spells the bytes is found, unless memory runs out.
-    ensures only { (fs : List Field) → Spells 0 fs bytes.now → Gives (λ v. v.items) result (Ok fs) }
+    ensures only { (fs : List Field) → Spells 0 fs bytes.now → Gives (λ v. v.items) told_of result (Ok fs) }
     // A fault is the first one.
-    ensures fault { IfErr result (OrMemory (IsFirstFault 0 bytes.now)) }
+    ensures fault { IfErr result (OrMemory told_of (IsFirstFault 0 bytes.now)) }
     // The first fault is answered, unless memory runs out.
-    ensures first { (e : WireFault) → IsFirstFault 0 bytes.now e → Gives (λ v. v.items) result (Err e) }
+    ensures first { (e : WireFault) → IsFirstFault 0 bytes.now e → Gives (λ v. v.items) told_of result (Err e) }
 {
     fields_at(alloc, 0, bytes)
 }

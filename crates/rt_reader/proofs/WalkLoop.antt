@@ -8,14 +8,15 @@ use Rattle.pb_wire.specs.declared.field.WireFault.{WireFault}
 use Rattle.pb_wire.specs.declared.field.WireFault.TheVariants as wire
 use Rattle.pb_wire.specs.Wire.{LiesIn, LiesWithin}
 use Rattle.pb_wire.specs.Cutting.{cut}
-use Rattle.pb_wire.specs.Cutting as wired
+use Rattle.pb_wire.specs.Cutting.{told_of as wire_told_of}
 use Rattle.rt_reader.specs.declared.fault.MessageFault.{MessageFault}
 use Rattle.rt_reader.specs.declared.fault.MessageFault.TheVariants as fault
-use Rattle.rt_reader.specs.Faults.{fault_of, OrMemory}
+use Rattle.otp_base.specs.Answers.{OrMemory}
+use Rattle.rt_reader.specs.Faults.{fault_of, told_of}
 use Rattle.rt_reader.specs.Fields.{Part, Reading, bytes_in}
 use Rattle.rt_reader.specs.Walk.{wrong_field, walk_wrong, walk_value, part_wrong, part_value}
 
-pub or_memory_map : (P Q : MessageFault → Type 0) (e : MessageFault) → ((f : MessageFault) → P f → Q f) → OrMemory P e → OrMemory Q e
+pub or_memory_map : (P Q : MessageFault → Type 0) (e : MessageFault) → ((f : MessageFault) → P f → Q f) → OrMemory told_of P e → OrMemory told_of Q e
 or_memory_map P Q (fault.Wire w) f h = f _ h
 or_memory_map P Q fault.NoHeader f h = f _ h
 or_memory_map P Q fault.Differential f h = f _ h
@@ -53,8 +54,8 @@ loop_value add x y fs i d total lt e so_far =
     ap (λ z. walk_value add z (drop (i + 1) fs)) e ∙ sym (value_goes_on add x (get_or fs i d) (drop (i + 1) fs)) ∙ sym (ap (walk_value add x) (drop_at_index fs i d lt)) ∙ so_far
 
 pub loop_ends : {X : Type 0} (table : ℕ → Reading) (seen : X → ℕ → Bool) (add : X → Field → X) (body : List ℕ) (x : X) (fs : List Field) (i : ℕ) (d : Field) (total whole : Option MessageFault) (e : MessageFault)
-    → i < length fs → OrMemory (λ f. wrong_field table seen body x (get_or fs i d) ≡ Some f) e
-    → walk_wrong table seen add body x (drop i fs) ≡ total → whole ≡ total → OrMemory (λ f. whole ≡ Some f) e
+    → i < length fs → OrMemory told_of (λ f. wrong_field table seen body x (get_or fs i d) ≡ Some f) e
+    → walk_wrong table seen add body x (drop i fs) ≡ total → whole ≡ total → OrMemory told_of (λ f. whole ≡ Some f) e
 loop_ends table seen add body x fs i d total whole e lt h so_far w =
     or_memory_map (λ f. wrong_field table seen body x (get_or fs i d) ≡ Some f) (λ f. whole ≡ Some f) e (λ f k.
     w ∙ sym so_far ∙ ap (walk_wrong table seen add body x) (drop_at_index fs i d lt) ∙ wrong_ends table seen add body x (get_or fs i d) (drop (i + 1) fs) f k) h
@@ -86,7 +87,7 @@ part_wrong_uncut table seen add blank body p w h = rw h refl
 
 -- a part that was not cut
 pub wire_fails : {X : Type 0} (table : ℕ → Reading) (seen : X → ℕ → Bool) (add : List ℕ → X → Field → X) (blank : X) (body : List ℕ) (p : Part) (w : WireFault)
-    → wired.OrMemory (λ f. cut p.from (bytes_in body p) ≡ Err f) w → OrMemory (λ f. part_wrong table seen add blank body p ≡ Some f) (fault_of w)
+    → OrMemory wire_told_of (λ f. cut p.from (bytes_in body p) ≡ Err f) w → OrMemory told_of (λ f. part_wrong table seen add blank body p ≡ Some f) (fault_of w)
 wire_fails table seen add blank body p (wire.Cut a) h = part_wrong_uncut table seen add blank body p (wire.Cut a) h
 wire_fails table seen add blank body p (wire.LongVarint a) h = part_wrong_uncut table seen add blank body p (wire.LongVarint a) h
 wire_fails table seen add blank body p (wire.Group a) h = part_wrong_uncut table seen add blank body p (wire.Group a) h
