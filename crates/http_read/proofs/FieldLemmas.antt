@@ -4,6 +4,7 @@ use Rattle.std.specs.Option.{is_some, unwrap_or}
 use Rattle.std.specs.Str.Parse.{digits_value}
 use Rattle.std.proofs.lemmas.Bool.{false≢true}
 use Rattle.std.proofs.lemmas.List.{at_drop_more}
+use Rattle.otp_base.specs.Number.{number_of}
 use Rattle.httparse.specs.declared.spans.HeaderSpan.{HeaderSpan}
 use Rattle.http_read.specs.Fields.{Line, is_named, values_of, is_number, IsBadLength}
 
@@ -30,7 +31,8 @@ bad_first value [] e = e
 bad_first value (other ∷ rest) e = tt
 
 -- what a value that was read as a number is
-pub is_number_some : (value : List ℕ) (n : ℕ) → Some n ≡ cond (is_number value) (Some (digits_value 10 value)) None → (is_number value ≡ true) × (n ≡ digits_value 10 value)
+pub is_number_some : (value : List ℕ) (n : ℕ) → Some n ≡ number_of value → (is_number value ≡ true) × (n ≡ digits_value 10 value)
+unfolding is_number
 is_number_some value n = by_test (is_number value) refl
   where
     by_test : (v : Bool) → is_number value ≡ v → Some n ≡ cond v (Some (digits_value 10 value)) None → (is_number value ≡ true) × (n ≡ digits_value 10 value)
@@ -38,7 +40,8 @@ is_number_some value n = by_test (is_number value) refl
     by_test false e read = absurd (false≢true (ap is_some (sym read)))
 
 -- and one that was not
-pub is_number_none : (value : List ℕ) → None ≡ cond (is_number value) (Some (digits_value 10 value)) None → is_number value ≡ false
+pub is_number_none : (value : List ℕ) → None ≡ number_of value → is_number value ≡ false
+unfolding is_number
 is_number_none value = by_test (is_number value) refl
   where
     by_test : (v : Bool) → is_number value ≡ v → None ≡ cond v (Some (digits_value 10 value)) None → is_number value ≡ false
@@ -63,7 +66,7 @@ so_far_bad name f lines i d None all within named none bad s =
 so_far_bad name f lines i d (Some n) all within named none bad s = absurd (false≢true (sym none))
 
 -- and one whose value is one
-pub so_far_first : (name : List ℕ) (f : HeaderSpan → Line) (lines : List HeaderSpan) (i : ℕ) (d : HeaderSpan) (found : Option ℕ) (all : List (List ℕ)) (n : ℕ) → i < length lines → is_named name (f (get_or lines i d)) ≡ true → is_some found ≡ false → Some n ≡ cond (is_number (f (get_or lines i d)).1) (Some (digits_value 10 (f (get_or lines i d)).1)) None → SoFar found all (values_of name (map f (drop i lines))) → SoFar (Some n) all (values_of name (map f (drop (i + 1) lines)))
+pub so_far_first : (name : List ℕ) (f : HeaderSpan → Line) (lines : List HeaderSpan) (i : ℕ) (d : HeaderSpan) (found : Option ℕ) (all : List (List ℕ)) (n : ℕ) → i < length lines → is_named name (f (get_or lines i d)) ≡ true → is_some found ≡ false → Some n ≡ number_of (f (get_or lines i d)).1 → SoFar found all (values_of name (map f (drop i lines))) → SoFar (Some n) all (values_of name (map f (drop (i + 1) lines)))
 so_far_first name f lines i d None all n within named none read s =
     let value = (f (get_or lines i d)).1 in
     let number = is_number_some value n read in

@@ -1,6 +1,5 @@
 pub mod FieldLemmas
 pub mod LineLemmas
-pub mod NumberLemmas
 pub mod OneItemLemmas
 pub mod ScanLemmas
 pub mod SomeItemLemmas

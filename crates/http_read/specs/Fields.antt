@@ -1,5 +1,5 @@
 -- What the header lines of a request say (RFC 9110, sections 5.1 to 5.6, and RFC 9112, sections 6 and 9).
-use Rattle.std.specs.Prelude.{◌≡◌, ℕ, Bool, true, false, Result, Ok, Err, ◌&&◌, List, [], ◌∷◌, map, length, Option, Some, None, if◌then◌else◌, ◌==◌, nat_lt, codes, bytes_eq}
+use Rattle.std.specs.Prelude.{◌≡◌, ℕ, Bool, true, false, Result, Ok, Err, ◌&&◌, List, [], ◌∷◌, map, length, Option, Some, None, if◌then◌else◌, ◌==◌, nat_le, codes, bytes_eq}
 use Rattle.std.specs.List.{list_all, list_any, slice_split}
 use Rattle.std.specs.Char.{is_ascii_digit, to_ascii_lowercase}
 use Rattle.std.specs.Str.Parse.{digits_value}
@@ -31,7 +31,7 @@ values_of name (line ∷ lines) = if is_named name line then line.1 ∷ values_o
 
 -- 1 to 18 digits; that there are no more is this project's own
 unfoldable pub is_number : List ℕ → Bool
-is_number text = nat_lt 0 (length text) && (nat_lt (length text) 19 && list_all is_ascii_digit text)
+is_number text = nat_le 1 (length text) && (nat_le (length text) 18 && list_all is_ascii_digit text)
 
 -- one of the parts between commas is `close` (RFC 9110, section 7.6.1, and RFC 9112, section 9.6)
 unfoldable pub lists_close : List ℕ → Bool

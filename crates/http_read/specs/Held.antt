@@ -1,6 +1,5 @@
 -- What a call makes of the bytes that are held and of those that the source has left.
 use Rattle.std.specs.Prelude.{◌≡◌, ℕ, ◌<◌, ◌≤◌, Option, Some, None, List, [], ◌++◌, length, take}
-use Rattle.otp_base.specs.Faults.{Rose}
 use Rattle.http_read.specs.Item.{Item, kept_body}
 use Rattle.http_read.specs.Lines.{HasNoMark, IsSpent, HasHead}
 use Rattle.http_read.specs.declared.buffered.Filled.{Filled}
@@ -39,13 +38,6 @@ Fills left before after now filled.More = Stays left before after now × (length
 Fills left before after now filled.End = Stays left before after now × NoneLeft after × (now ≡ before)
 Fills left before after now filled.Failed = KeepsTelling left after
 Fills left before after now filled.Memory = KeepsTelling left after
-
--- a read failed only where the count rose
-abbrev pub FillsByCount : ℕ → ℕ → Filled → Type 0
-FillsByCount before now filled.More = before ≤ now
-FillsByCount before now filled.End = before ≤ now
-FillsByCount before now filled.Failed = (before ≤ now) × Rose before now
-FillsByCount before now filled.Memory = before ≤ now
 
 -- what is held once the front was looked at for a mark
 abbrev pub IsAhead : List ℕ → Ahead → Type 0

@@ -1,5 +1,6 @@
 ghost use Rattle.std.specs.Prelude.{◌≡◌, [], ◌<◌, ◌≤◌, IfOk, drop, length};
-ghost use Rattle.http_read.specs.Held.{Fills, FillsByCount};
+ghost use Rattle.otp_base.specs.Faults.{Rose};
+ghost use Rattle.http_read.specs.Held.{Fills};
 
 use crate::scan::HEAD_BYTES;
 use otp_base::{Got, Memory, Source};
@@ -69,7 +70,8 @@ impl Buffer {
     pub(crate) fn fill<S: Source>(&mut self, source: &mut S) -> Filled
         requires { length self.old < 16384 }
         ensures bytes { Fills (S.left source.old) self.old (S.left source.new) self.new result }
-        ensures cause { FillsByCount (S.faults source.old) (S.faults source.new) result }
+        ensures later { S.faults source.old ≤ S.faults source.new }
+        ensures cause { result ≡ Filled.Failed → Rose (S.faults source.old) (S.faults source.new) }
         ensures room { length self.new ≤ 24576 }
     {
         let mut piece = [0u8; PIECE];

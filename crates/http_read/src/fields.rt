@@ -5,8 +5,9 @@ ghost use Rattle.httparse.specs.Spans.{IsHeaderWithin, header_bytes};
 ghost use Rattle.http_read.specs.Fields.{asks_to_close, has_line, lists_close, values_of, LengthOf};
 
 use crate::request::HeadFault;
-use crate::text::{is_same, number, trim};
+use crate::text::{is_same, trim};
 use httparse::spans::HeaderSpan;
+use otp_base::number_of_bytes;
 
 /// Whether some line has the name.
 pub fn has_line(text: &[u8], lines: &[HeaderSpan], name: &[u8]) -> bool
@@ -32,7 +33,7 @@ pub fn content_length(text: &[u8], lines: &[HeaderSpan]) -> Result<Option<u64>, 
             if found.is_some() {
                 return Err(HeadFault::Length);
             }
-            let Some(length) = number(line.value.of(text)) else {
+            let Some(length) = number_of_bytes(line.value.of(text)) else {
                 return Err(HeadFault::Length);
             };
             found = Some(length);
