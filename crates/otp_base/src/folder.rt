@@ -1,4 +1,4 @@
-ghost use Rattle.std.specs.Prelude.{◌≡◌, ℕ, ◌<◌, ◌≤◌, Option, List, length};
+ghost use Rattle.std.specs.Prelude.{◌≡◌, ℕ, ◌<◌, ◌≤◌, IfOk, Option, List, length};
 ghost use Rattle.otp_base.specs.Faults.{Rose};
 ghost use Rattle.otp_base.specs.Folder.{ReadsFile, ReadsWhole, WithinRoom};
 ghost use Rattle.otp_base.specs.declared.folder.FileEntry.{FileEntry};
@@ -67,6 +67,7 @@ pub fn read_file<F: Folder>(
     limit: u64,
 ) -> Result<List<u8>, FileFault>
     ensures whole { ReadsWhole (F.files folder.old) name.now limit result }
+    ensures within { IfOk result (λ bytes. length bytes ≤ limit) }
     ensures unchanged { F.files folder.new ≡ F.files folder.old }
     ensures later { F.faults folder.old ≤ F.faults folder.new }
     ensures cause { result ≡ Err FileFault.ReadFault → Rose (F.faults folder.old) (F.faults folder.new) }

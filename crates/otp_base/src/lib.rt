@@ -19,6 +19,7 @@ mod sink;
 mod source;
 mod std_sink;
 mod std_source;
+mod steps;
 mod text;
 
 pub use adding::push_some;
@@ -34,6 +35,7 @@ pub use sink::{Put, Sink, WriteFault, put_all};
 pub use source::{Got, Source};
 pub use std_sink::StdSink;
 pub use std_source::StdSource;
+pub use steps::Steps;
 pub use text::Text;
 
 #[cfg(test)]

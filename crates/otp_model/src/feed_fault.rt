@@ -1,7 +1,7 @@
 ghost use Rattle.std.specs.Prelude.{◌≡◌};
 ghost use Rattle.otp_model.specs.FeedFaults.{IsFault, cause_number, fault_at, file_name, file_number};
 
-use otp_base::Text;
+use otp_base::{Memory, Text};
 use std::alloc::Global;
 use thiserror::Error;
 
@@ -121,6 +121,16 @@ pub enum FeedFault {
     /// Memory ran out.
     #[error("memory ran out")]
     Memory,
+}
+
+impl From<Memory> for FeedFault {
+    ghost use Rattle.otp_model.specs.declared.feed_fault.FeedFault.TheVariants as fault;
+
+    ghost from_gives = { λ _ e. e ≡ fault.Memory };
+
+    fn from(_error: Memory) -> FeedFault {
+        FeedFault::Memory
+    }
 }
 
 impl FeedFault {
