@@ -6,7 +6,7 @@ use crate::timetable::DayNo;
 use jiff::civil::Date;
 
 /// The number that two digits spell.
-fn two_digits(tens: u8, ones: u8) -> Option<u32>
+pub(crate) fn two_digits(tens: u8, ones: u8) -> Option<u32>
     ensures number { result ≡ number_of_two tens ones }
     ensures small { IfSome result (λ n. n < 100) }
 {

@@ -3,6 +3,7 @@
 #![tactic(auto)]
 
 mod change;
+mod clock;
 mod day;
 mod feed_fault;
 mod journey;
@@ -16,6 +17,7 @@ mod timetable;
 mod value;
 
 pub use change::Change;
+pub use clock::parse_clock;
 pub use day::parse_day;
 pub use feed_fault::{FeedCause, FeedFault, FeedFile};
 pub use journey::{Cursor, Found, Journey, Leg, Page, Place, Request, Value};
