@@ -43,9 +43,8 @@ no_words files (plan path query asked) options h = h
 
 failed_refused : (files : Option (List FileEntry)) (words : List (List ℕ)) (why : Refusal) → IsFailed files words why → IsRefused files words why
 failed_refused files words refusal.Words h = absurd (no_words files h.task h.options h.fails)
-failed_refused files words (refusal.Feed cause file row column) h = h
-failed_refused files words refusal.Read h = h
-failed_refused files words (refusal.Request cause parameter) h = h
+failed_refused files words (refusal.Feed fault) h = h
+failed_refused files words (refusal.Request fault) h = h
 failed_refused files words refusal.Memory h = tt
 
 pub check_refused : (files : Option (List FileEntry)) (words : List (List ℕ)) (on : _) (options : Options) (why : Refusal) (read : Option Task)

@@ -10,6 +10,7 @@ use Rattle.otp_model.specs.declared.journey.Found.{Found}
 use Rattle.otp_model.specs.declared.journey.Leg.{Leg}
 use Rattle.otp_model.specs.declared.journey.Leg.TheVariants.{Walk, Ride}
 use Rattle.otp_model.specs.declared.journey.Request.{Request}
+use Rattle.otp_model.specs.declared.run_name.RunName.{RunName}
 use Rattle.otp_model.specs.declared.timetable.Call.{Call}
 use Rattle.otp_model.specs.declared.timetable.Edges.{Edges}
 use Rattle.otp_model.specs.declared.timetable.Feed.{Feed}
@@ -32,8 +33,8 @@ reached_seconds edges place stop seconds small h =
     omega (arith, near, small, h.way.walk.seconds_are, div-le_self h.way.walk.distance edges.profile.speed)
 
 -- the calls of a ride over a sound feed
-pub record IsSoundRide (feed : Feed) (trip : ℕ) (day : ℤ) (board alight : Call) : Type 0 where
-  pub of : IsRideOf feed trip day board alight
+pub record IsSoundRide (feed : Feed) (name : RunName) (board alight : Call) : Type 0 where
+  pub of : IsRideOf feed name board alight
   pub forward : board.departure ≤ℤ alight.arrival
   pub low : neg_ℤ (pos (2 ^ 36)) ≤ℤ board.departure
   pub high : alight.arrival ≤ℤ pos (2 ^ 36)
@@ -41,8 +42,8 @@ pub record IsSoundRide (feed : Feed) (trip : ℕ) (day : ℤ) (board alight : Ca
 call_at : (stops : ℕ) (calls : List Call) (n : ℕ) (call : Call) → All (IsSoundCall stops) calls → n < length calls → get_or calls n call ≡ call → IsSoundCall stops call
 call_at stops calls n call all within is = subst (IsSoundCall stops) is (all n call within)
 
-sound_ride : (feed : Feed) (trip : ℕ) (day : ℤ) (board alight : Call) → IsSound feed → IsRide feed.runs trip day board alight → IsSoundRide feed trip day board alight
-sound_ride feed trip day board alight sound h =
+sound_ride : (feed : Feed) (name : RunName) (board alight : Call) → IsSound feed → IsRide feed.runs name board alight → IsSoundRide feed name board alight
+sound_ride feed name board alight sound h =
     let run = All-contains (IsSoundRun _ _) feed.runs h.run sound.runs h.on in
     let lb = slice_get_within h.run.calls h.from board h.is.boards in
     let la = slice_get_within h.run.calls h.to alight h.is.alights in
@@ -100,30 +101,30 @@ module _ (feed : Feed) (edges : Edges) (r : Request) (sound : IsSound feed) (sma
   follows last walk [] high h =
       let e = ends last.arrival walk high (reached_seconds edges r.to last.stop walk small h) in
       record { of = All-nil (IsLegOf feed); low = e.0; high = e.1 }
-  follows last walk (Ride t d b a ∷ Walk w ∷ legs) high h =
-      let ride = sound_ride feed t d b a sound h.1 in
+  follows last walk (Ride t b a ∷ Walk w ∷ legs) high h =
+      let ride = sound_ride feed t b a sound h.1 in
       let rest = follows a w legs ride.high h.2 in
       record {
-        of = All-cons (IsLegOf feed) (Ride t d b a) (Walk w ∷ legs) ride.of (All-cons (IsLegOf feed) (Walk w) legs tt rest.of);
+        of = All-cons (IsLegOf feed) (Ride t b a) (Walk w ∷ legs) ride.of (All-cons (IsLegOf feed) (Walk w) legs tt rest.of);
         low = goes_on last.arrival b.departure a.arrival _ walk r.slack h.0.edge.minimum w (walked_of legs) h.0.in_time ride.forward rest.low;
         high = rest.high;
       }
-  follows last walk (Ride t d b a ∷ Ride t' d' b' a' ∷ legs) high h = absurd h
-  follows last walk (Ride t d b a ∷ []) high h = absurd h
+  follows last walk (Ride t b a ∷ Ride t' b' a' ∷ legs) high h = absurd h
+  follows last walk (Ride t b a ∷ []) high h = absurd h
   follows last walk (Walk w ∷ legs) high h = absurd h
 
   pub journey : (legs : List Leg) (v : Value) → IsJourney feed.runs edges r legs → HasValue r legs v → IsInWindow r v → IsAsked feed.stops r
       → All (IsLegOf feed) legs × FitsText (record { commit = 0; value = v })
-  journey (Walk first ∷ Ride t d b a ∷ Walk next ∷ legs) v h has in_window asked =
-      let ride = sound_ride feed t d b a sound h.1 in
+  journey (Walk first ∷ Ride t b a ∷ Walk next ∷ legs) v h has in_window asked =
+      let ride = sound_ride feed t b a sound h.1 in
       let rest = follows a next legs ride.high h.2 in
       let departs : ℤ = b.departure -ℤ pos first in
       let arrives : ℤ = arrival_after (a.arrival +ℤ pos next) legs in
       let early : pos 0 ≤ℤ departs = omega (arith, ints, in_window.not_before, asked.time.0, has.departure) in
       let late = takes b.departure a.arrival departs arrives first next (walked_of legs) refl ride.forward rest.low in
       let few : 1 + rides_of legs ≤ 8 = omega (arith, h.3, asked.numbers.rides.1) in (
-        All-cons (IsLegOf feed) (Walk first) (Ride t d b a ∷ Walk next ∷ legs) tt
-            (All-cons (IsLegOf feed) (Ride t d b a) (Walk next ∷ legs) ride.of (All-cons (IsLegOf feed) (Walk next) legs tt rest.of)),
+        All-cons (IsLegOf feed) (Walk first) (Ride t b a ∷ Walk next ∷ legs) tt
+            (All-cons (IsLegOf feed) (Ride t b a) (Walk next ∷ legs) ride.of (All-cons (IsLegOf feed) (Walk next) legs tt rest.of)),
         record {
           commit = omega arith;
           departure = record {

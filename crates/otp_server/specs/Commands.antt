@@ -9,7 +9,7 @@ use Rattle.feed_load.specs.Runs.{call_count}
 use Rattle.gtfs_tables.specs.Feed.{tables_of}
 use Rattle.otp_base.specs.declared.folder.FileEntry.{FileEntry}
 use Rattle.otp_model.specs.declared.feed_fault.FeedFault.{FeedFault}
-use Rattle.otp_model.specs.declared.feed_fault.FeedFault.TheVariants as feed
+use Rattle.query_form.specs.declared.fault.TargetFault.{TargetFault}
 use Rattle.otp_model.specs.declared.options.Options.{Options}
 use Rattle.otp_server.specs.Lines.{counts_line}
 use Rattle.otp_server.specs.Reply.{IsPlanned, IsQueryFault, IsSearchable}
@@ -42,13 +42,12 @@ pub record Plans (files : Option (List FileEntry)) (path : List ℕ) (options : 
 -- a fault of the feed; a failed read and want of memory say nothing of it
 abbrev pub IsFeedFault : Option (List FileEntry) → List ℕ → Options → Refusal → Type 0
 IsFeedFault files path options refusal.Words = ⊥
-IsFeedFault files path options (refusal.Feed cause file row column) = Spells files path options (Err (feed.At cause file row column))
-IsFeedFault files path options refusal.Read = Unit {0}
-IsFeedFault files path options (refusal.Request cause parameter) = ⊥
+IsFeedFault files path options (refusal.Feed fault) = Spells files path options (Err fault)
+IsFeedFault files path options (refusal.Request fault) = ⊥
 IsFeedFault files path options refusal.Memory = Unit {0}
 
 -- a feed, and the query's fault over it
-pub record IsRefusedOver (files : Option (List FileEntry)) (path : List ℕ) (options : Options) (query : List ℕ) (why : Refusal) : Type 0 where
+pub record IsRefusedOver (files : Option (List FileEntry)) (path : List ℕ) (options : Options) (query : List ℕ) (why : TargetFault) : Type 0 where
   pub loaded : Loaded
   pub spelt : Spells files path options (Ok loaded)
   pub searchable : IsSearchable loaded.feed loaded.edges
@@ -57,9 +56,8 @@ pub record IsRefusedOver (files : Option (List FileEntry)) (path : List ℕ) (op
 -- a fault of the feed, or else of the query
 abbrev pub IsPlanFault : Option (List FileEntry) → List ℕ → Options → List ℕ → Refusal → Type 0
 IsPlanFault files path options query refusal.Words = ⊥
-IsPlanFault files path options query (refusal.Feed cause file row column) = Spells files path options (Err (feed.At cause file row column))
-IsPlanFault files path options query refusal.Read = Unit {0}
-IsPlanFault files path options query (refusal.Request cause parameter) = IsRefusedOver files path options query (refusal.Request cause parameter)
+IsPlanFault files path options query (refusal.Feed fault) = Spells files path options (Err fault)
+IsPlanFault files path options query (refusal.Request fault) = IsRefusedOver files path options query fault
 IsPlanFault files path options query refusal.Memory = Unit {0}
 
 -- the options that a task asks for

@@ -3,6 +3,12 @@
 use Rattle.std.specs.Prelude.{ℕ, ◌==◌, List, [], ◌∷◌, ◌++◌, codes, decimal, if◌then◌else◌}
 use Rattle.query_form.specs.declared.fault.QueryFault.{QueryFault}
 use Rattle.query_form.specs.declared.fault.QueryFault.TheVariants as fault
+use Rattle.query_form.specs.declared.fault.TargetFault.{TargetFault}
+use Rattle.query_form.specs.declared.fault.TargetFault.TheVariants as target
+use Rattle.otp_model.specs.FeedFaults.{file_name}
+use Rattle.otp_model.specs.declared.feed_fault.FeedFault.{FeedFault}
+use Rattle.otp_model.specs.declared.feed_fault.FeedFault.TheVariants as feed
+use Rattle.otp_model.specs.declared.feed_fault.FeedFile.TheVariants as file
 use Rattle.otp_server.specs.declared.refusal.Refusal.{Refusal}
 use Rattle.otp_server.specs.declared.refusal.Refusal.TheVariants as refusal
 use Rattle.otp_server.specs.declared.status.Status.{Status}
@@ -20,22 +26,25 @@ number_of status.Request = 8
 
 abbrev pub status_of : Refusal → Status
 status_of refusal.Words = status.Words
-status_of (refusal.Feed cause file row column) = status.Feed
-status_of refusal.Read = status.Read
-status_of (refusal.Request cause parameter) = status.Request
+status_of (refusal.Feed (feed.At cause file row column)) = status.Feed
+status_of (refusal.Feed feed.Read) = status.Read
+status_of (refusal.Feed feed.Memory) = status.Memory
+status_of (refusal.Request (target.Query cause parameter)) = status.Request
+status_of (refusal.Request target.Memory) = status.Memory
 status_of refusal.Memory = status.Memory
 
 -- the names of a feed's files, by their numbers
-abbrev pub file_name : ℕ → List ℕ
-file_name n =
-    if n == 1 then codes "agency.txt"
-    else (if n == 2 then codes "stops.txt"
-    else (if n == 3 then codes "routes.txt"
-    else (if n == 4 then codes "trips.txt"
-    else (if n == 5 then codes "stop_times.txt"
-    else (if n == 6 then codes "calendar.txt"
-    else (if n == 7 then codes "calendar_dates.txt"
-    else (if n == 8 then codes "transfers.txt" else [])))))))
+abbrev pub name_of_file : ℕ → List ℕ
+name_of_file n =
+    if n == 1 then file_name file.Agency
+    else (if n == 2 then file_name file.Stops
+    else (if n == 3 then file_name file.Routes
+    else (if n == 4 then file_name file.Trips
+    else (if n == 5 then file_name file.StopTimes
+    else (if n == 6 then file_name file.Calendar
+    else (if n == 7 then file_name file.CalendarDates
+    else (if n == 8 then file_name file.Transfers
+    else (if n == 9 then file_name file.Frequencies else []))))))))
 
 -- a column's name, and a dash where none is meant
 abbrev pub or_dash : List ℕ → List ℕ
@@ -57,12 +66,20 @@ feed_line cause file row column =
 abbrev pub request_line : List ℕ → List ℕ → List ℕ
 request_line cause parameter = codes "request " ++ (cause ++ (codes " " ++ (parameter ++ codes "\n")))
 
+abbrev pub feed_refusal : FeedFault → List ℕ
+feed_refusal (feed.At cause file row column) = feed_line cause (name_of_file file) row (or_dash column)
+feed_refusal feed.Read = codes "read\n"
+feed_refusal feed.Memory = []
+
+abbrev pub request_refusal : TargetFault → List ℕ
+request_refusal (target.Query cause parameter) = request_line (cause_name cause) parameter
+request_refusal target.Memory = []
+
 -- the line of a refusal; for want of memory nothing is written
 abbrev pub line_of : Refusal → List ℕ
 line_of refusal.Words = codes "words\n"
-line_of (refusal.Feed cause file row column) = feed_line cause (file_name file) row (or_dash column)
-line_of refusal.Read = codes "read\n"
-line_of (refusal.Request cause parameter) = request_line (cause_name cause) parameter
+line_of (refusal.Feed fault) = feed_refusal fault
+line_of (refusal.Request fault) = request_refusal fault
 line_of refusal.Memory = []
 
 -- `stops=S trips=T runs=R calls=C passed=P`

@@ -35,9 +35,8 @@ pub record IsFailed (files : Option (List FileEntry)) (words : List (List ℕ)) 
 -- why nothing is carried out
 abbrev pub IsRefused : Option (List FileEntry) → List (List ℕ) → Refusal → Type 0
 IsRefused files words refusal.Words = task_of words ≡ None
-IsRefused files words (refusal.Feed cause file row column) = IsFailed files words (refusal.Feed cause file row column)
-IsRefused files words refusal.Read = IsFailed files words refusal.Read
-IsRefused files words (refusal.Request cause parameter) = IsFailed files words (refusal.Request cause parameter)
+IsRefused files words (refusal.Feed fault) = IsFailed files words (refusal.Feed fault)
+IsRefused files words (refusal.Request fault) = IsFailed files words (refusal.Request fault)
 IsRefused files words refusal.Memory = Unit {0}
 
 -- a refusal's status and its line

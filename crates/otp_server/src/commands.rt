@@ -2,6 +2,7 @@ ghost use Rattle.std.specs.Prelude.{◌≡◌, ◌≤◌, IfErr, IfOk, Err, Ok};
 ghost use Rattle.feed_load.specs.Loaded.{IsFeedOf};
 ghost use Rattle.feed_load.specs.Runs.{call_count};
 ghost use Rattle.otp_base.specs.Faults.{Rose};
+ghost use Rattle.otp_model.specs.Limits.{most_calls};
 ghost use Rattle.otp_model.specs.Ranges.{AreOptionsInRange};
 ghost use Rattle.otp_server.specs.Commands.{Checks, IsFeedFault, IsPlanFault, Plans, Spells, counts_of};
 ghost use Rattle.otp_server.specs.Reply.{IsSearchable};
@@ -24,9 +25,9 @@ pub fn check<F: Folder>(
     requires { AreOptionsInRange options.now }
     ensures done { IfOk result (Checks (F.files folder.old) path.now options.now) }
     ensures refused { IfErr result (IsFeedFault (F.files folder.old) path.now options.now) }
-    ensures read { result ≡ Err Refusal.Read → Rose (F.faults folder.old) (F.faults folder.new) }
-    ensures files { F.files folder.new ≡ F.files folder.old }
-    ensures reads { F.faults folder.old ≤ F.faults folder.new }
+    ensures cause { result ≡ Err (Refusal.Feed FeedFault.Read) → Rose (F.faults folder.old) (F.faults folder.new) }
+    ensures unchanged { F.files folder.new ≡ F.files folder.old }
+    ensures later { F.faults folder.old ≤ F.faults folder.new }
 {
     match open(alloc, folder, path, options) {
         Ok(loaded) => Ok(counts(alloc, &loaded)?),
@@ -45,9 +46,9 @@ pub fn plan<F: Folder>(
     requires { AreOptionsInRange options.now }
     ensures done { IfOk result (Plans (F.files folder.old) path.now options.now query.now) }
     ensures refused { IfErr result (IsPlanFault (F.files folder.old) path.now options.now query.now) }
-    ensures read { result ≡ Err Refusal.Read → Rose (F.faults folder.old) (F.faults folder.new) }
-    ensures files { F.files folder.new ≡ F.files folder.old }
-    ensures reads { F.faults folder.old ≤ F.faults folder.new }
+    ensures cause { result ≡ Err (Refusal.Feed FeedFault.Read) → Rose (F.faults folder.old) (F.faults folder.new) }
+    ensures unchanged { F.files folder.new ≡ F.files folder.old }
+    ensures later { F.faults folder.old ≤ F.faults folder.new }
 {
     match open(alloc, folder, path, options) {
         Ok(loaded) => planned(alloc, &loaded.feed, &loaded.edges, query),
@@ -67,33 +68,19 @@ fn open<F: Folder>(
     ensures searchable { IfOk result (λ loaded. IsSearchable loaded.feed loaded.edges) }
     ensures few { IfOk result (λ loaded. call_count loaded.feed.runs ≤ 40000000) }
     ensures refused { IfErr result (IsFeedFault (F.files folder.old) path.now options.now) }
-    ensures read { result ≡ Err Refusal.Read → Rose (F.faults folder.old) (F.faults folder.new) }
-    ensures files { F.files folder.new ≡ F.files folder.old }
-    ensures reads { F.faults folder.old ≤ F.faults folder.new }
+    ensures cause { result ≡ Err (Refusal.Feed FeedFault.Read) → Rose (F.faults folder.old) (F.faults folder.new) }
+    ensures unchanged { F.files folder.new ≡ F.files folder.old }
+    ensures later { F.faults folder.old ≤ F.faults folder.new }
 {
     match load(alloc, folder, path, options) {
         Ok(loaded) => Ok(loaded),
-        Err(
-            FeedFault::At {
-                cause,
-                file,
-                row,
-                column,
-            },
-        ) => Err(Refusal::Feed {
-            cause,
-            file,
-            row,
-            column,
-        }),
-        Err(FeedFault::Read) => Err(Refusal::Read),
-        Err(FeedFault::Memory) => Err(Refusal::Memory),
+        Err(fault) => Err(Refusal::Feed(fault)),
     }
 }
 
 /// The line of counts.
 fn counts(alloc: Global, loaded: &Loaded) -> Result<List<u8>, Memory>
-    requires { call_count loaded.now.feed.runs ≤ 40000000 }
+    requires { call_count loaded.now.feed.runs ≤ most_calls }
     ensures { IfOk result (λ text. text ≡ counts_of loaded.now) }
 {
     let line = counts_line(alloc, &loaded.feed, loaded.passed)?;

@@ -1,5 +1,6 @@
 ghost use Rattle.std.specs.Prelude.{◌≡◌, ◌≤◌, IfOk, length, string_bytes};
 ghost use Rattle.feed_load.specs.Runs.{call_count};
+ghost use Rattle.otp_model.specs.Limits.{most_calls};
 ghost use Rattle.otp_server.specs.Lines.{counts_line};
 
 use otp_base::Memory;
@@ -8,7 +9,7 @@ use std::alloc::{AllocError, Global};
 
 /// The line of counts of a feed, of which so many rows and trips were passed over.
 pub fn counts_line(alloc: Global, feed: &Feed, passed: u64) -> Result<String, Memory>
-    requires { call_count feed.now.runs ≤ 40000000 }
+    requires { call_count feed.now.runs ≤ most_calls }
     ensures { IfOk result (λ line. string_bytes line ≡ counts_line (length feed.now.stops) (length feed.now.trips) (length feed.now.runs) (call_count feed.now.runs) passed) }
 {
     let calls = count_calls(feed.runs.as_slice());
@@ -38,7 +39,7 @@ fn line_of(
 
 /// How many calls runs have.
 fn count_calls(runs: &[Run]) -> usize
-    requires { call_count runs.now ≤ 40000000 }
+    requires { call_count runs.now ≤ most_calls }
     ensures { result ≡ call_count runs.now }
 {
     let mut count = 0;

@@ -26,11 +26,8 @@ fn main(rt: HostRuntime) -> ExitCode {
         // Words that are no text are no command.
         Err(_) => Vec::new(alloc),
     };
-    let mut folder = DiskFolder { rt: &rt, faults: 0 };
-    let mut out = StdSink {
-        writer: io::writer(&rt),
-        faults: 0,
-    };
+    let mut folder = DiskFolder::new(&rt);
+    let mut out = StdSink::new(io::writer(&rt));
     ExitCode::from(run_offline(alloc, &words, &mut folder, &mut out).number())
 }
 

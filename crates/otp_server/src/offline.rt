@@ -7,6 +7,7 @@ use crate::refusal::Refusal;
 use crate::status::Status;
 use command_words::{Command, WordsFault, read_words};
 use otp_base::{Folder, List, Sink, put_all};
+use otp_model::FeedFault;
 use std::alloc::Global;
 
 /// Carries out a command over a folder and writes its answer.
@@ -39,9 +40,9 @@ pub fn run_offline<F: Folder, O: Sink>(
 fn reply<F: Folder>(alloc: Global, words: &[String], folder: &mut F) -> Result<List<u8>, Refusal>
     ensures done { IfOk result (IsDone (F.files folder.old) (map string_bytes words.now)) }
     ensures refused { IfErr result (IsRefused (F.files folder.old) (map string_bytes words.now)) }
-    ensures read { result ≡ Err Refusal.Read → Rose (F.faults folder.old) (F.faults folder.new) }
-    ensures files { F.files folder.new ≡ F.files folder.old }
-    ensures reads { F.faults folder.old ≤ F.faults folder.new }
+    ensures cause { result ≡ Err (Refusal.Feed FeedFault.Read) → Rose (F.faults folder.old) (F.faults folder.new) }
+    ensures unchanged { F.files folder.new ≡ F.files folder.old }
+    ensures later { F.faults folder.old ≤ F.faults folder.new }
 {
     match read_words(alloc, words) {
         Ok(

@@ -1,9 +1,10 @@
 ghost use Rattle.std.specs.Prelude.{◌≡◌, IfOk, string_bytes};
-ghost use Rattle.otp_server.specs.Lines.{cause_name, feed_line, file_name, line_of, or_dash, request_line, status_of};
+ghost use Rattle.otp_server.specs.Lines.{cause_name, feed_line, feed_refusal, line_of, name_of_file, or_dash, request_line, request_refusal, status_of};
 
 use crate::status::Status;
-use otp_base::{Memory, Text};
-use query_form::QueryFault;
+use otp_base::Memory;
+use otp_model::{FeedFault, FeedFile};
+use query_form::{QueryFault, TargetFault};
 use std::alloc::{AllocError, Global};
 
 /// Why a command was not carried out.
@@ -11,21 +12,10 @@ use std::alloc::{AllocError, Global};
 pub enum Refusal {
     /// The words are no command.
     Words,
-    /// The first fault of the feed: the number of its cause, that of its file, its row, and its column, which
-    /// is empty where none is meant.
-    Feed {
-        cause: u8,
-        file: u8,
-        row: u64,
-        column: Text,
-    },
-    /// A read of the folder failed.
-    Read,
-    /// The query's first parameter at fault.
-    Request {
-        cause: QueryFault,
-        parameter: Text,
-    },
+    /// The feed was not read.
+    Feed(FeedFault),
+    /// The query was not read.
+    Request(TargetFault),
     /// Memory ran out.
     Memory,
 }
@@ -47,9 +37,11 @@ impl Refusal {
     {
         match self {
             Refusal::Words => Status::Words,
-            Refusal::Feed { .. } => Status::Feed,
-            Refusal::Read => Status::Read,
-            Refusal::Request { .. } => Status::Request,
+            Refusal::Feed(FeedFault::At { .. }) => Status::Feed,
+            Refusal::Feed(FeedFault::Read) => Status::Read,
+            Refusal::Feed(FeedFault::Memory) => Status::Memory,
+            Refusal::Request(TargetFault::Query { .. }) => Status::Request,
+            Refusal::Request(TargetFault::Memory) => Status::Memory,
             Refusal::Memory => Status::Memory,
         }
     }
@@ -60,26 +52,44 @@ impl Refusal {
     {
         match self {
             Refusal::Words => Ok(String::from_str(alloc, "words\n")?),
-            Refusal::Feed {
-                cause,
-                file,
-                row,
-                column,
-            } => Ok(feed_line(
-                alloc,
-                *cause,
-                file_name(*file),
-                *row,
-                or_dash(column.as_str()),
-            )?),
-            Refusal::Read => Ok(String::from_str(alloc, "read\n")?),
-            Refusal::Request { cause, parameter } => Ok(request_line(
-                alloc,
-                cause_name(*cause),
-                parameter.as_str(),
-            )?),
+            Refusal::Feed(fault) => feed_refusal(alloc, fault),
+            Refusal::Request(fault) => request_refusal(alloc, fault),
             Refusal::Memory => Ok(String::new(alloc)),
         }
+    }
+}
+
+fn feed_refusal(alloc: Global, fault: &FeedFault) -> Result<String, Memory>
+    ensures { IfOk result (λ line. string_bytes line ≡ feed_refusal fault.now) }
+{
+    match fault {
+        FeedFault::At {
+            cause,
+            file,
+            row,
+            column,
+        } => Ok(feed_line(
+            alloc,
+            *cause,
+            file_name(*file),
+            *row,
+            or_dash(column.as_str()),
+        )?),
+        FeedFault::Read => Ok(String::from_str(alloc, "read\n")?),
+        FeedFault::Memory => Ok(String::new(alloc)),
+    }
+}
+
+fn request_refusal(alloc: Global, fault: &TargetFault) -> Result<String, Memory>
+    ensures { IfOk result (λ line. string_bytes line ≡ request_refusal fault.now) }
+{
+    match fault {
+        TargetFault::Query { cause, parameter } => Ok(request_line(
+            alloc,
+            cause_name(*cause),
+            parameter.as_str(),
+        )?),
+        TargetFault::Memory => Ok(String::new(alloc)),
     }
 }
 
@@ -103,17 +113,18 @@ fn request_line(alloc: Global, cause: &str, parameter: &str) -> Result<String, A
 
 /// The name of a feed's file, by its number.
 fn file_name(number: u8) -> &'static str
-    ensures { result.now ≡ file_name number }
+    ensures { result.now ≡ name_of_file number }
 {
     match number {
-        1 => "agency.txt",
-        2 => "stops.txt",
-        3 => "routes.txt",
-        4 => "trips.txt",
-        5 => "stop_times.txt",
-        6 => "calendar.txt",
-        7 => "calendar_dates.txt",
-        8 => "transfers.txt",
+        1 => FeedFile::Agency.name(),
+        2 => FeedFile::Stops.name(),
+        3 => FeedFile::Routes.name(),
+        4 => FeedFile::Trips.name(),
+        5 => FeedFile::StopTimes.name(),
+        6 => FeedFile::Calendar.name(),
+        7 => FeedFile::CalendarDates.name(),
+        8 => FeedFile::Transfers.name(),
+        9 => FeedFile::Frequencies.name(),
         _ => "",
     }
 }
