@@ -15,9 +15,13 @@ use Rattle.otp_model.specs.declared.tables.Tables.{Tables}
 abbrev pub weekday_flags : CalendarRow → List ℕ
 weekday_flags row = row.monday ∷ row.tuesday ∷ row.wednesday ∷ row.thursday ∷ row.friday ∷ row.saturday ∷ row.sunday ∷ []
 
--- the row's flag of the day's weekday is 1, and the day is one from its start date to its end date
+-- the row's flag of a weekday is 1, and the day is one from its start date to its end date
+abbrev pub schedules_by : ℕ → ℤ → CalendarRow → Bool
+schedules_by weekday day row = (slice_index (weekday_flags row) weekday == 1) && (int_le row.start_date day && int_le day row.end_date)
+
+-- the row schedules its service on the day, by its weekday
 abbrev pub schedules : ℤ → CalendarRow → Bool
-schedules day row = (slice_index (weekday_flags row) (weekday_number day) == 1) && (int_le row.start_date day && int_le day row.end_date)
+schedules day = schedules_by (weekday_number day) day
 
 -- the row is an exception of this type on the day: 1 adds its service, 2 removes it
 abbrev pub excepts : ℕ → ℤ → DateRow → Bool

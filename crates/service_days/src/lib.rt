@@ -8,7 +8,7 @@ mod zone;
 
 pub use local_time::{day_start, local_day};
 pub use otp_model::parse_day;
-pub use services::active;
+pub use services::{Services, active};
 pub use zone::{ZoneFault, zone_of};
 
 #[cfg(test)]
