@@ -3,7 +3,7 @@ ghost use Rattle.std.specs.List.{All};
 ghost use Rattle.jiff_core.specs.Calendar.{IsEpochDay};
 ghost use Rattle.otp_model.specs.Rows.{AreTables, IsCalendarRow, IsDateRow};
 
-use crate::{ZoneFault, active, day_start, local_day, parse_day, zone_of};
+use crate::{Services, ZoneFault, active, day_start, local_day, parse_day, zone_of};
 use otp_base::{List, Memory, Text};
 use otp_model::{CalendarRow, DateRow, DayNo, Tables};
 use std::alloc::Global;
@@ -158,6 +158,7 @@ fn tables(alloc: Global, calendars: List<CalendarRow>, dates: List<DateRow>) -> 
         calendars,
         dates,
         transfers: List::new(alloc),
+        frequencies: List::new(alloc),
     }
 }
 
@@ -190,6 +191,7 @@ fn may(alloc: Global) -> Result<Tables, Memory>
 fn lists_active_services(rt: HostRuntime) -> Result<(), Fail> {
     let alloc = rt.alloc();
     let may = may(alloc)?;
+    let services = Services::of(alloc, &may)?;
     for (day, numbers) in [
         (MONDAY - 1, [2, 4].as_slice()),
         (MONDAY, [1, 2, 5].as_slice()),
@@ -199,7 +201,8 @@ fn lists_active_services(rt: HostRuntime) -> Result<(), Fail> {
         (19_875, [].as_slice()),
     ] {
         assert!(rt; 0 <= day && day <= 376_199);
-        assert_eq!(rt; active(alloc, &may, day)?.as_slice(), numbers, "at {day}");
+        assert_eq!(rt; services.on(alloc, day)?.as_slice(), numbers, "at {day}");
     }
+    assert_eq!(rt; active(alloc, &may, MONDAY + 5)?.as_slice(), [2].as_slice());
     Ok(())
 }

@@ -10,7 +10,8 @@ use Rattle.otp_model.specs.declared.links.TransferRow.{TransferRow}
 use Rattle.otp_model.specs.declared.timetable.Edge.{Edge}
 use Rattle.otp_model.specs.declared.timetable.Profile.{Profile}
 use Rattle.otp_model.specs.declared.timetable.Stop.{Stop}
-use Rattle.walk_table.specs.Edges.{AreEdgesFrom, AreRising, EachAt, edge_count, HasMoreEdges, IsEdge}
+use Rattle.otp_base.specs.EachAt.{EachAt}
+use Rattle.walk_table.specs.Edges.{AreEdgesFrom, AreRising, edge_count, HasMoreEdges, IsEdge}
 
 -- the elements of a rising list stand no earlier in another that has them
 place_past : (xs ys : List Edge) → AreRising xs → AreRising ys → ((edge : Edge) → Contains xs edge → Contains ys edge) → (i : ℕ) (d : Edge) → i < length xs → (k : ℕ) × (i ≤ k) × (k < length ys) × (get_or ys k d ≡ get_or xs i d)

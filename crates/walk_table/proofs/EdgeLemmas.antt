@@ -14,13 +14,16 @@ use Rattle.std.specs.Int.{div_ceil}
 use Rattle.otp_model.specs.Plane.{IsDistance, point_of, square_apart}
 use Rattle.otp_base.specs.Adds.{Adds, FromBelow, FromSome, IsOnly}
 use Rattle.otp_base.proofs.AddsLemmas.{adds_as, adds_more_below, adds_option, Contains-adds}
+use Rattle.otp_model.specs.Limits.{most_edges}
+use Rattle.otp_model.specs.Limits.{most_reach}
 use Rattle.walk_table.specs.declared.fault.EdgesFault.{EdgesFault}
 use Rattle.walk_table.specs.declared.fault.EdgesFault.TheVariants.{TooMany, Memory}
 use Rattle.walk_table.specs.Faults.{HasMoreFrom, IsCause, IsCauseFrom, IsOverfull}
-use Rattle.walk_table.specs.Edges.{AreEdgesFrom, AreNear, AreRising, EachAt, edge_count, Holds, HasMinimum, IsEdge, IsEdgeUnder, IsGreatest}
-use Rattle.walk_table.specs.Rows.{Arrives, Bars, IsAmong, IsEdgeTo, IsGiven, IsLeaving, IsMinimum}
+use Rattle.otp_base.specs.EachAt.{EachAt}
+use Rattle.walk_table.specs.Edges.{AreEdgesFrom, AreNear, AreRising, edge_count, Holds, HasMinimum, IsEdge, IsEdgeUnder, IsGreatest}
+use Rattle.walk_table.specs.Rows.{Arrives, BarsWayTo, IsAmong, IsEdgeTo, IsGiven, IsLeaving, IsMinimum}
 use Rattle.walk_table.specs.Walks.{IsWalkOver}
-use Rattle.walk_table.proofs.ListLemmas.{each_push, each_weaker}
+use Rattle.otp_base.proofs.EachAtLemmas.{each_push, each_weaker}
 use Rattle.walk_table.proofs.RisingLemmas.{IsRisingTo, rising_more}
 use Rattle.walk_table.proofs.RowLemmas.{any_of, greatest_as, greatest_same, of_any}
 use Rattle.walk_table.proofs.WalkLemmas.{same_distance}
@@ -90,7 +93,7 @@ minimum_there stops rows from q to near m h = (h.0, (h.1, h.2.0, inr near), h.2.
 minimum_back : (stops : List Stop) (rows : List TransferRow) (from : Stop) (q : ℕ) (to : Stop) (m : ℕ) → HasMinimum (IsAmong stops rows from q to) m → FromSome (IsMinimum stops q to) rows m
 minimum_back stops rows from q to m h = (h.0, h.1.0, (h.1.1, h.2))
 
-pub edge_some : (stops : List Stop) (rows : List TransferRow) (profile : Profile) (p : ℕ) (from : Stop) (q : ℕ) (to : Stop) (at_from at_to : Point) (square walk minimum : ℕ) → at_from ≡ point_of from → at_to ≡ point_of to → square ≡ square_apart at_from at_to → square ≤ 5000000 * 5000000 → (Any (Bars stops q to) rows → ⊥) → IsGiven stops rows profile p from q to → IsWalkOver profile.speed square walk → IsGreatest (FromSome (IsMinimum stops q to) rows) minimum → IsOnly (IsEdgeTo stops rows profile p from q to) (Some (record { to = q; walk = walk; minimum = minimum }))
+pub edge_some : (stops : List Stop) (rows : List TransferRow) (profile : Profile) (p : ℕ) (from : Stop) (q : ℕ) (to : Stop) (at_from at_to : Point) (square walk minimum : ℕ) → at_from ≡ point_of from → at_to ≡ point_of to → square ≡ square_apart at_from at_to → square ≤ most_reach * most_reach → (Any (BarsWayTo stops q to) rows → ⊥) → IsGiven stops rows profile p from q to → IsWalkOver profile.speed square walk → IsGreatest (FromSome (IsMinimum stops q to) rows) minimum → IsOnly (IsEdgeTo stops rows profile p from q to) (Some (record { to = q; walk = walk; minimum = minimum }))
 edge_some stops rows profile p from q to at_from at_to square walk minimum is_from is_to is_square close open_ given over least = ((refl, under), same)
   where
     apart : square ≡ square_apart (point_of from) (point_of to)
@@ -102,7 +105,7 @@ edge_some stops rows profile p from q to at_from at_to square walk minimum is_fr
     under : IsEdgeUnder (IsAmong stops rows from q to) profile p from to (record { to = q; walk = walk; minimum = minimum })
     under = record {
       given = elim given [ inl e ↦ inl e | inr w ↦ elim w [ inl r ↦ inr (inl r) | inr a ↦ (let row = of_any (Arrives stops q to) rows a in inr (inr (row.0, (row.1, row.2, inr near)))) ] ];
-      kept = λ row r k. open_ (any_of (Bars stops q to) rows row r.0 (k, r.1));
+      kept = λ row r k. open_ (any_of (BarsWayTo stops q to) rows row r.0 (k, r.1));
       walk = record { distance = over.0; is_distance = subst (λ (n : ℕ). IsDistance n over.0) apart over.1; seconds_are = over.2 };
       minimum = greatest_as (FromSome (IsMinimum stops q to) rows) (HasMinimum (IsAmong stops rows from q to)) minimum (minimum_there stops rows from q to near) (minimum_back stops rows from q to) least;
     }
@@ -153,7 +156,7 @@ cause_from stops transfers rows profile p from n to room list o TooMany e exact 
 cause_from stops transfers rows profile p from n to room list o Memory e exact at h rising only full = tt
 
 -- the lists so far and one that there is no room for
-pub cause_all : (stops : List Stop) (transfers : List TransferRow) (profile : Profile) (from : List (List Edge)) (p room : ℕ) (fault : EdgesFault) → EachAt (AreEdgesFrom stops transfers profile) from → length from ≡ p → edge_count from + room ≡ 100000000 → IsCauseFrom stops transfers profile p room fault → IsCause stops transfers profile fault
+pub cause_all : (stops : List Stop) (transfers : List TransferRow) (profile : Profile) (from : List (List Edge)) (p room : ℕ) (fault : EdgesFault) → EachAt (AreEdgesFrom stops transfers profile) from → length from ≡ p → edge_count from + room ≡ most_edges → IsCauseFrom stops transfers profile p room fault → IsCause stops transfers profile fault
 cause_all stops transfers profile from p room TooMany each whole sum over = record {
   from = from ++ over.0 ∷ [];
   rise = each_push (λ n list. AreRising list) from over.0 (each_weaker (AreEdgesFrom stops transfers profile) (λ n list. AreRising list) from (λ n list h. h.rises) each) over.1;
@@ -165,7 +168,7 @@ cause_all stops transfers profile from p room TooMany each whole sum over = reco
 cause_all stops transfers profile from p room Memory each whole sum over = tt
 
 -- the lists so far and the next one
-pub lists_more : (stops : List Stop) (transfers : List TransferRow) (profile : Profile) (from longer : List (List Edge)) (list : List Edge) (p room : ℕ) → longer ≡ from ++ list ∷ [] → EachAt (AreEdgesFrom stops transfers profile) from → length from ≡ p → edge_count from + room ≡ 100000000 → AreEdgesFrom stops transfers profile p list → length list ≤ room → EachAt (AreEdgesFrom stops transfers profile) longer × (length longer ≡ p + 1) × (edge_count longer + (room - length list) ≡ 100000000)
+pub lists_more : (stops : List Stop) (transfers : List TransferRow) (profile : Profile) (from longer : List (List Edge)) (list : List Edge) (p room : ℕ) → longer ≡ from ++ list ∷ [] → EachAt (AreEdgesFrom stops transfers profile) from → length from ≡ p → edge_count from + room ≡ most_edges → AreEdgesFrom stops transfers profile p list → length list ≤ room → EachAt (AreEdgesFrom stops transfers profile) longer × (length longer ≡ p + 1) × (edge_count longer + (room - length list) ≡ most_edges)
 lists_more stops transfers profile from longer list p room e each whole sum new few =
     rw e (
       each_push (AreEdgesFrom stops transfers profile) from list each (subst (λ (k : ℕ). AreEdgesFrom stops transfers profile k list) (sym whole) new),

@@ -1,8 +1,8 @@
 pub mod WalkLemmas
-pub mod ListLemmas
 pub mod RisingLemmas
 pub mod ReachLemmas
 pub mod RowLemmas
+pub mod TestLemmas
 pub mod EdgeLemmas
 pub mod PassedLemmas
 pub mod DirectLemmas

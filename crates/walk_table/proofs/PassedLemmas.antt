@@ -8,6 +8,7 @@ use Rattle.otp_model.specs.declared.timetable.Point.{Point}
 use Rattle.otp_model.specs.declared.timetable.Stop.{Stop}
 use Rattle.otp_model.specs.Plane.{point_of, square_apart}
 use Rattle.otp_base.specs.Adds.{FromSome}
+use Rattle.otp_model.specs.Limits.{most_reach}
 use Rattle.walk_table.specs.Edges.{AreNear}
 use Rattle.walk_table.specs.Passed.{Counts, HasMeantPoint, HoldsSomewhere, AreBothFilled, IsNear, IsNearSome}
 use Rattle.walk_table.specs.Reaches.{IsChildPoint}
@@ -92,7 +93,7 @@ somewhere_near stops row from to wide kind type from_is to_is = (there, back)
         let q = of_any (IsNear p.0) to p.2 in
         let f = (from_is p.0).0 p.1 in
         let t = (to_is q.0).0 q.1 in
-        let near : AreNear f.stop t.stop = subst (λ (b : Point). square_apart (point_of f.stop) b ≤ 5000000 * 5000000) t.point_is (subst (λ (b : Point). square_apart b q.0 ≤ 5000000 * 5000000) f.point_is q.2) in
+        let near : AreNear f.stop t.stop = subst (λ (b : Point). square_apart (point_of f.stop) b ≤ most_reach * most_reach) t.point_is (subst (λ (b : Point). square_apart b q.0 ≤ most_reach * most_reach) f.point_is q.2) in
         record { p = f.n; from = f.stop; from_is = f.stop_is; q = t.n; to = t.stop; to_is = t.stop_is; holds = record { wide = wide; kind = kind; leaves = f.meant; arrives = t.meant; near = inr near } }
 
     back : HoldsSomewhere stops row → Any (IsNearSome to) from

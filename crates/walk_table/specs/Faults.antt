@@ -5,13 +5,14 @@ use Rattle.otp_model.specs.declared.links.TransferRow.{TransferRow}
 use Rattle.otp_model.specs.declared.timetable.Edge.{Edge}
 use Rattle.otp_model.specs.declared.timetable.Profile.{Profile}
 use Rattle.otp_model.specs.declared.timetable.Stop.{Stop}
+use Rattle.otp_model.specs.Limits.{most_edges}
 use Rattle.walk_table.specs.declared.fault.EdgesFault.{EdgesFault}
 use Rattle.walk_table.specs.declared.fault.EdgesFault.TheVariants.{TooMany, Memory}
 use Rattle.walk_table.specs.Edges.{AreRising, HasMoreEdges, IsEdge}
 
 -- too many are more than 100,000,000
 abbrev pub IsCause : List Stop → List TransferRow → Profile → EdgesFault → Type 0
-IsCause stops rows profile TooMany = HasMoreEdges 100000000 stops rows profile
+IsCause stops rows profile TooMany = HasMoreEdges most_edges stops rows profile
 IsCause stops rows profile Memory = Unit {0}
 
 -- there are more edges from the stop with the number p than so many

@@ -4,6 +4,7 @@ use Rattle.std.specs.List.{Any}
 use Rattle.otp_model.specs.declared.links.TransferRow.{TransferRow}
 use Rattle.otp_model.specs.declared.timetable.Point.{Point}
 use Rattle.otp_model.specs.declared.timetable.Stop.{Stop}
+use Rattle.otp_model.specs.Limits.{most_reach}
 use Rattle.otp_model.specs.Plane.{point_of, square_apart}
 use Rattle.walk_table.specs.Edges.{Holds, IsMeant}
 
@@ -38,7 +39,7 @@ pub record HasMeantPoint (stops : List Stop) (side : Option ℕ) (point : Point)
 
 -- two points at most 5,000,000 mm apart
 abbrev pub IsNear : Point → Point → Type 0
-IsNear p q = square_apart p q ≤ 5000000 * 5000000
+IsNear p q = square_apart p q ≤ most_reach * most_reach
 
 abbrev pub IsNearSome : List Point → Point → Type 0
 IsNearSome points p = Any (IsNear p) points

@@ -6,7 +6,7 @@ use Rattle.otp_model.specs.declared.timetable.Point.{Point}
 use Rattle.otp_model.specs.declared.timetable.Profile.{Profile}
 use Rattle.otp_model.specs.declared.timetable.Stop.{Stop}
 use Rattle.otp_model.specs.declared.journey.Place.{Place}
-use Rattle.otp_model.specs.Plane.{IsReached, point_of}
+use Rattle.otp_model.specs.Plane.{IsPlatform, IsReached, point_of}
 use Rattle.walk_table.specs.declared.reach.Reach.{Reach}
 use Rattle.walk_table.specs.Walks.{IsLeastWalk}
 
@@ -14,14 +14,14 @@ use Rattle.walk_table.specs.Walks.{IsLeastWalk}
 abbrev pub AreReached : Edges → Place → List Reach → Type 0
 AreReached edges place list = (reach : Reach) → Contains list reach ↔ IsReached edges place reach.stop reach.seconds
 
--- the point of a stop of kind 0 whose parent is the station
+-- the point of a stop or platform whose parent is the station
 abbrev pub IsChildPoint : ℕ → Stop → Point → Type 0
-IsChildPoint station stop p = (stop.kind ≡ 0) × (stop.parent ≡ Some station) × (p ≡ point_of stop)
+IsChildPoint station stop p = IsPlatform stop × (stop.parent ≡ Some station) × (p ≡ point_of stop)
 
--- the stop is of kind 0, and the least walk from one of the points takes the seconds
+-- the stop is a stop or platform, and the least walk from one of the points takes the seconds
 abbrev pub IsReachAt : Profile → List Point → ℕ → Stop → Reach → Type 0
 IsReachAt profile points number stop reach =
-    (stop.kind ≡ 0) × (reach.stop ≡ number) × IsLeastWalk profile points (point_of stop) (Some reach.seconds)
+    IsPlatform stop × (reach.stop ≡ number) × IsLeastWalk profile points (point_of stop) (Some reach.seconds)
 
 -- the same of the stop with this number
 abbrev pub IsReachOf : Profile → List Point → List Stop → ℕ → Reach → Type 0

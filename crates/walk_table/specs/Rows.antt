@@ -5,6 +5,7 @@ use Rattle.otp_model.specs.declared.links.TransferRow.{TransferRow}
 use Rattle.otp_model.specs.declared.timetable.Edge.{Edge}
 use Rattle.otp_model.specs.declared.timetable.Profile.{Profile}
 use Rattle.otp_model.specs.declared.timetable.Stop.{Stop}
+use Rattle.otp_model.specs.Transfers.{Bars}
 use Rattle.walk_table.specs.Edges.{AreInReach, AreNear, IsEdgeUnder, IsMeant, minimum_of}
 
 -- the row is wide, of type 0 to 3, and leads from the stop
@@ -19,8 +20,8 @@ abbrev pub Arrives : List Stop → ℕ → Stop → TransferRow → Type 0
 Arrives stops q to row = IsMeant stops row.to q to
 
 -- the row bars the way to the stop
-abbrev pub Bars : List Stop → ℕ → Stop → TransferRow → Type 0
-Bars stops q to row = (row.kind ≡ 3) × Arrives stops q to row
+abbrev pub BarsWayTo : List Stop → ℕ → Stop → TransferRow → Type 0
+BarsWayTo stops q to row = Bars row × Arrives stops q to row
 
 -- the least time of a row that leads to the stop
 abbrev pub IsMinimum : List Stop → ℕ → Stop → TransferRow → ℕ → Type 0
@@ -28,7 +29,7 @@ IsMinimum stops q to row m = Arrives stops q to row × (minimum_of row ≡ m)
 
 -- one of the rows that leave leads to the stop
 abbrev pub IsAmong : List Stop → List TransferRow → Stop → ℕ → Stop → TransferRow → Type 0
-IsAmong stops rows from q to row = Contains rows row × Arrives stops q to row × ((row.kind ≡ 3) ⊎ AreNear from to)
+IsAmong stops rows from q to row = Contains rows row × Arrives stops q to row × (Bars row ⊎ AreNear from to)
 
 -- an edge to the stop with the number q, by the rows that leave
 abbrev pub IsEdgeTo : List Stop → List TransferRow → Profile → ℕ → Stop → ℕ → Stop → Edge → Type 0

@@ -1,7 +1,10 @@
 ghost use Rattle.std.specs.Prelude.{◌≡◌, ◌++◌, ◌<◌, ◌≤◌, ◌^◌, length, slice_get, Some, IfErr, IfOk, IsTrue, OnOk, ◌↔◌};
 ghost use Rattle.std.specs.Option.{option_to_list};
 ghost use Rattle.otp_base.specs.Adds.{IsOnly};
-ghost use Rattle.walk_table.specs.Edges.{AreEdges, AreEdgesFrom, AreInReach, EachAt, HasMoreEdges, edge_count};
+ghost use Rattle.otp_base.specs.EachAt.{EachAt};
+ghost use Rattle.otp_model.specs.Limits.{most_edges};
+ghost use Rattle.otp_model.specs.Ranges.{CanWalk};
+ghost use Rattle.walk_table.specs.Edges.{AreEdges, AreEdgesFrom, AreInReach, HasMoreEdges, edge_count};
 ghost use Rattle.walk_table.specs.Faults.{IsCause, IsCauseFrom, IsOverfull};
 ghost use Rattle.walk_table.specs.Passed.{Counts, IsPassedOver};
 ghost use Rattle.walk_table.specs.Rows.{IsEdgeTo, IsGiven};
@@ -35,12 +38,11 @@ pub fn edges(
     transfers: &[TransferRow],
     profile: &Profile,
 ) -> Result<Walks, EdgesFault>
-    requires reach { profile.now.reach ≤ 5000000 }
-    requires speed { 0 < profile.now.speed }
+    requires walks { CanWalk profile.now }
     requires stops { length stops.now < 2 ^ 32 }
     ensures edges { IfOk result (λ walks. AreEdges stops.now transfers.now profile.now walks.edges) }
-    ensures count { IfOk result (λ walks. edge_count walks.edges.from ≤ 100000000) }
-    ensures few { IfOk result (λ walks. HasMoreEdges 100000000 stops.now transfers.now profile.now → ⊥) }
+    ensures count { IfOk result (λ walks. edge_count walks.edges.from ≤ most_edges) }
+    ensures few { IfOk result (λ walks. HasMoreEdges most_edges stops.now transfers.now profile.now → ⊥) }
     ensures passed { IfOk result (λ walks. Counts (IsPassedOver stops.now) transfers.now walks.passed) }
     ensures fault { IfErr result (IsCause stops.now transfers.now profile.now) }
 {
@@ -64,12 +66,11 @@ fn edges_from_all(
     transfers: &[TransferRow],
     profile: &Profile,
 ) -> Result<List<List<Edge>>, EdgesFault>
-    requires reach { profile.now.reach ≤ 5000000 }
-    requires speed { 0 < profile.now.speed }
+    requires walks { CanWalk profile.now }
     requires stops { length stops.now < 2 ^ 32 }
     ensures whole { IfOk result (λ from. length from ≡ length stops.now) }
     ensures each { IfOk result (EachAt (AreEdgesFrom stops.now transfers.now profile.now)) }
-    ensures count { IfOk result (λ from. edge_count from ≤ 100000000) }
+    ensures count { IfOk result (λ from. edge_count from ≤ most_edges) }
     ensures fault { IfErr result (IsCause stops.now transfers.now profile.now) }
 {
     let mut from = List::new(alloc);
@@ -92,8 +93,7 @@ fn edges_from(
     stop: &Stop,
     room: usize,
 ) -> Result<List<Edge>, EdgesFault>
-    requires reach { profile.now.reach ≤ 5000000 }
-    requires speed { 0 < profile.now.speed }
+    requires walks { CanWalk profile.now }
     requires stops { length stops.now < 2 ^ 32 }
     requires stop { slice_get stops.now number ≡ Some stop.now }
     ensures edges { IfOk result (AreEdgesFrom stops.now transfers.now profile.now number) }
@@ -139,8 +139,7 @@ fn edge_to(
     to_number: StopNo,
     to: &Stop,
 ) -> Option<Edge>
-    requires reach { profile.now.reach ≤ 5000000 }
-    requires speed { 0 < profile.now.speed }
+    requires walks { CanWalk profile.now }
     requires from { slice_get stops.now number ≡ Some from.now }
     requires to { slice_get stops.now to_number ≡ Some to.now }
     ensures { IsOnly (IsEdgeTo stops.now rows.now profile.now number from.now to_number to.now) result }
@@ -170,7 +169,7 @@ fn is_given(
     to_number: StopNo,
     to: &Stop,
 ) -> bool
-    requires reach { profile.now.reach ≤ 5000000 }
+    requires walks { CanWalk profile.now }
     ensures { IsTrue result ↔ IsGiven stops.now rows.now profile.now number from.now to_number to.now }
 {
     if number == to_number {
@@ -184,10 +183,10 @@ fn is_given(
 
 /// Whether both are stops or platforms, and the one is within reach of the other.
 fn are_in_reach(profile: &Profile, from: &Stop, to: &Stop) -> bool
-    requires { profile.now.reach ≤ 5000000 }
+    requires { CanWalk profile.now }
     ensures { IsTrue result ↔ AreInReach profile.now from.now to.now }
 {
-    if from.kind != 0 || to.kind != 0 {
+    if !from.is_platform() || !to.is_platform() {
         return false;
     }
     square_within(u64::from(profile.reach), &from.point(), &to.point()).is_some()

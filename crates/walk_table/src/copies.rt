@@ -1,6 +1,6 @@
 ghost use Rattle.std.specs.Prelude.{◌≡◌, IfOk};
 
-use otp_base::{List, Memory, Text};
+use otp_base::{List, Memory};
 use otp_model::Stop;
 use std::alloc::Global;
 
@@ -19,8 +19,8 @@ fn copied_stop(alloc: Global, stop: &Stop) -> Result<Stop, Memory>
     ensures { IfOk result (λ copy. copy ≡ stop.now) }
 {
     Ok(Stop {
-        id: Text::from_str(alloc, stop.id.as_str())?,
-        name: Text::from_str(alloc, stop.name.as_str())?,
+        id: stop.id.copy(alloc)?,
+        name: stop.name.copy(alloc)?,
         x: stop.x,
         y: stop.y,
         kind: stop.kind,

@@ -25,12 +25,12 @@ pub fn passed_over(alloc: Global, stops: &[Stop], transfers: &[TransferRow]) -> 
 fn holds_somewhere(alloc: Global, stops: &[Stop], row: &TransferRow) -> Result<bool, Memory>
     ensures { IfOk result (λ holds. IsTrue holds ↔ HoldsSomewhere stops.now row.now) }
 {
-    if row.narrow || row.kind > 3 {
+    if row.narrow || row.is_in_seat() {
         return Ok(false);
     }
     let from = meant_points(alloc, stops, row.from)?;
     let to = meant_points(alloc, stops, row.to)?;
-    if row.kind == 3 {
+    if row.bars() {
         return Ok(are_both_filled(&from, &to));
     }
     Ok(are_some_near(&from, &to))

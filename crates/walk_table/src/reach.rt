@@ -2,6 +2,7 @@ ghost use Rattle.std.specs.Prelude.{◌≡◌, ◌↔◌, ◌<◌, ◌≤◌, �
 ghost use Rattle.std.specs.List.{AllPairs, Contains};
 ghost use Rattle.otp_base.specs.Adds.{FromSome, IsOnly};
 ghost use Rattle.otp_model.specs.Plane.{HasPoint, IsPlaceOf};
+ghost use Rattle.otp_model.specs.Ranges.{CanWalk};
 ghost use Rattle.walk_table.specs.Reaches.{AreReached, IsChildPoint, IsReachAt};
 
 use crate::walks::least_walk;
@@ -19,8 +20,7 @@ pub struct Reach {
 /// The stops and platforms that are reached on foot from a place, each with the least seconds, by rising
 /// number. The way back takes as long.
 pub fn reach_of(alloc: Global, edges: &Edges, place: &Place) -> Result<Vec<Reach>, Memory>
-    requires reach { edges.now.profile.reach ≤ 5000000 }
-    requires speed { 0 < edges.now.profile.speed }
+    requires walks { CanWalk edges.now.profile }
     requires stops { length edges.now.stops < 2 ^ 32 }
     requires place { IsPlaceOf edges.now.stops place.now }
     ensures reached { IfOk result (λ list. AreReached edges.now place.now list.items) }
@@ -37,11 +37,10 @@ pub fn reach_of(alloc: Global, edges: &Edges, place: &Place) -> Result<Vec<Reach
 
 /// The reach of a stop or platform, if it is within reach of one of the points.
 fn reach_at(edges: &Edges, points: &[Point], number: StopNo, stop: &Stop) -> Option<Reach>
-    requires reach { edges.now.profile.reach ≤ 5000000 }
-    requires speed { 0 < edges.now.profile.speed }
+    requires walks { CanWalk edges.now.profile }
     ensures { IsOnly (IsReachAt edges.now.profile points.now number stop.now) result }
 {
-    if stop.kind != 0 {
+    if !stop.is_platform() {
         return None;
     }
     let at = stop.point();
@@ -78,7 +77,7 @@ fn stop_points(
     requires { slice_get stops.now named ≡ Some place.now }
     ensures { IfOk result (λ points. (p : _) → Contains points.items p ↔ HasPoint stops.now (Place.Stop named) p) }
 {
-    if place.kind == 1 {
+    if place.is_station() {
         return child_points(alloc, named, stops);
     }
     one_point(alloc, place.point())
@@ -98,7 +97,7 @@ pub fn child_points(alloc: Global, station: StopNo, stops: &[Stop]) -> Result<Ve
 pub fn child_point(station: StopNo, stop: &Stop) -> Option<Point>
     ensures { IsOnly (IsChildPoint station stop.now) result }
 {
-    if stop.kind != 0 {
+    if !stop.is_platform() {
         return None;
     }
     match stop.parent {

@@ -1,8 +1,8 @@
 ghost use Rattle.std.specs.Prelude.{◌≡◌, ◌↔◌, IsTrue, IfOk, Some};
 ghost use Rattle.std.specs.List.{Any, Contains};
 ghost use Rattle.otp_base.specs.Adds.{FromSome, IsOnly};
-ghost use Rattle.walk_table.specs.Edges.{IsGreatest, IsMeant, IsStation};
-ghost use Rattle.walk_table.specs.Rows.{Arrives, Bars, IsLeaving, IsMinimum};
+ghost use Rattle.walk_table.specs.Edges.{IsGreatest, IsMeant, IsStationAt};
+ghost use Rattle.walk_table.specs.Rows.{Arrives, BarsWayTo, IsLeaving, IsMinimum};
 
 use otp_base::{Memory, push_some};
 use otp_model::{Stop, StopNo, TransferRow};
@@ -29,7 +29,7 @@ pub fn rows_from(
 fn leaving(stops: &[Stop], number: StopNo, stop: &Stop, row: &TransferRow) -> Option<TransferRow>
     ensures { IsOnly (IsLeaving stops.now number stop.now row.now) result }
 {
-    if row.narrow || row.kind > 3 {
+    if row.narrow || row.is_in_seat() {
         return None;
     }
     if !is_meant(stops, row.from, number, stop) {
@@ -53,15 +53,15 @@ fn arrives(stops: &[Stop], number: StopNo, stop: &Stop, row: &TransferRow) -> bo
 
 /// Whether one of the rows takes the edge to the stop away.
 pub fn is_barred(stops: &[Stop], rows: &[TransferRow], number: StopNo, stop: &Stop) -> bool
-    ensures { IsTrue result ↔ Any (Bars stops.now number stop.now) rows.now }
+    ensures { IsTrue result ↔ Any (BarsWayTo stops.now number stop.now) rows.now }
 {
     rows.iter().any(|row| bars(stops, number, stop, row))
 }
 
 fn bars(stops: &[Stop], number: StopNo, stop: &Stop, row: &TransferRow) -> bool
-    ensures { IsTrue result ↔ Bars stops.now number stop.now row.now }
+    ensures { IsTrue result ↔ BarsWayTo stops.now number stop.now row.now }
 {
-    row.kind == 3 && arrives(stops, number, stop, row)
+    row.bars() && arrives(stops, number, stop, row)
 }
 
 /// The greatest of the least times of the rows that lead to the stop, 0 where there is none.
@@ -82,7 +82,7 @@ fn minimum_to(stops: &[Stop], number: StopNo, stop: &Stop, row: &TransferRow) ->
     if !arrives(stops, number, stop, row) {
         return 0;
     }
-    if row.kind == 2 { row.minimum } else { 0 }
+    if row.has_minimum() { row.minimum } else { 0 }
 }
 
 /// Whether a row means the stop with the number by a stop that it names.
@@ -92,7 +92,7 @@ pub fn is_meant(stops: &[Stop], side: Option<StopNo>, number: StopNo, stop: &Sto
     let Some(named) = side else {
         return false;
     };
-    if stop.kind != 0 {
+    if !stop.is_platform() {
         return false;
     }
     if named == number {
@@ -105,10 +105,10 @@ pub fn is_meant(stops: &[Stop], side: Option<StopNo>, number: StopNo, stop: &Sto
 }
 
 fn is_station(stops: &[Stop], number: StopNo) -> bool
-    ensures { IsTrue result ↔ IsStation stops.now number }
+    ensures { IsTrue result ↔ IsStationAt stops.now number }
 {
     match stops.get(number as usize) {
-        Some(stop) => stop.kind == 1,
+        Some(stop) => stop.is_station(),
         None => false,
     }
 }

@@ -1,5 +1,7 @@
 ghost use Rattle.std.specs.Prelude.{◌≡◌, ◌*◌, ◌^◌, ◌<◌, ◌≤◌, MatchOption};
+ghost use Rattle.otp_model.specs.Limits.{most_reach};
 ghost use Rattle.otp_model.specs.Plane.{square_apart, IsDistance};
+ghost use Rattle.otp_model.specs.Ranges.{CanWalk};
 ghost use Rattle.otp_base.specs.Adds.{IsOnly};
 ghost use Rattle.walk_table.specs.Walks.{IsWalkOver, IsWalkTo, lesser, IsLeastWalk};
 
@@ -10,7 +12,7 @@ pub const FARTHEST: u64 = 5_000_000;
 
 /// The square of the distance of two points, if they are within reach.
 pub fn square_within(reach: u64, p: &Point, q: &Point) -> Option<u64>
-    requires { reach ≤ 5000000 }
+    requires { reach ≤ most_reach }
     ensures { MatchOption result (reach * reach < square_apart p.now q.now) (λ square. (square ≡ square_apart p.now q.now) × (square ≤ reach * reach)) }
 {
     let dx = p.x.abs_diff(q.x);
@@ -44,8 +46,7 @@ pub fn seconds_over(speed: u32, square: u64) -> u32
 
 /// The seconds of a walk between two points, if they are within reach.
 pub fn walk_between(profile: &Profile, p: &Point, q: &Point) -> Option<u32>
-    requires reach { profile.now.reach ≤ 5000000 }
-    requires speed { 0 < profile.now.speed }
+    requires walks { CanWalk profile.now }
     ensures { IsOnly (IsWalkTo profile.now p.now q.now) result }
 {
     let square = square_within(u64::from(profile.reach), p, q)?;
@@ -64,8 +65,7 @@ pub fn lesser(a: Option<u32>, b: Option<u32>) -> Option<u32>
 
 /// The least seconds of a walk from one of the points.
 pub fn least_walk(profile: &Profile, points: &[Point], q: &Point) -> Option<u32>
-    requires reach { profile.now.reach ≤ 5000000 }
-    requires speed { 0 < profile.now.speed }
+    requires walks { CanWalk profile.now }
     ensures { IsLeastWalk profile.now points.now q.now result }
 {
     let mut least = None;

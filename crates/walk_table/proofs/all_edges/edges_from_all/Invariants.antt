@@ -1,10 +1,12 @@
 use Rattle.std.proofs.Common.{◌≡◌, ◌+◌, length}
-use Rattle.walk_table.specs.Edges.{AreEdgesFrom, EachAt, edge_count}
+use Rattle.otp_base.specs.EachAt.{EachAt}
+use Rattle.otp_model.specs.Limits.{most_edges}
+use Rattle.walk_table.specs.Edges.{AreEdgesFrom, edge_count}
 use Rattle.walk_table.proofs.all_edges.edges_from_all.Given as goal
 
 abbrev pub invariant-loop-number : goal.invariant-loop-number
 invariant-loop-number l = record {
   each : EachAt (AreEdgesFrom l.stops l.transfers l.profile) l.from;
   whole : length l.from ≡ l.number;
-  room : edge_count l.from + l.room ≡ 100000000;
+  room : edge_count l.from + l.room ≡ most_edges;
 }
