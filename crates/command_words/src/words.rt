@@ -36,11 +36,11 @@ fn is_option(word: &str) -> bool
 fn is_once(words: &[String], option: &str) -> bool
     ensures { result ≡ is_once (map string_bytes words.now) option.now }
 {
-    words
+    let uses = words
         .iter()
         .filter(|word| names(word.as_str(), option))
-        .count()
-        <= 1
+        .count();
+    uses <= 1
 }
 
 /// Whether each option stands at most once.
