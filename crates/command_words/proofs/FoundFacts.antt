@@ -1,9 +1,9 @@
 -- What the words are, by what clap found in them.
 use Rattle.std.proofs.Common.{◌≡◌, ◌∙◌, ℕ, true, List, ◌∷◌, Option, Some, None, is_some, refl, sym, ap, subst, codes}
-use Rattle.clap.specs.Words.{HasMatchesOf, first_of, first_value, found_of, matches_of, rows_of, takes}
+use Rattle.clap.specs.Words.{HasMatchesOf, first_of, found_of, matches_of, rows_of, takes}
 use Rattle.clap.proofs.WalkLemmas.{first_value-rows}
 use Rattle.clap.specs.declared.parser.matches.ArgMatches.{ArgMatches}
-use Rattle.command_words.specs.App.{found_words, words_app}
+use Rattle.command_words.specs.App.{found_text, found_words, words_app}
 use Rattle.command_words.specs.Commands.{task_of, task_on}
 use Rattle.otp_base.specs.Optionals.{◌>>=◌}
 use Rattle.command_words.specs.Values.{options_in}
@@ -32,11 +32,11 @@ options-agree f g same =
 -- and what it finds in them is what they ask for
 pub line-read : (words rest : List (List ℕ)) (name : List ℕ) (m : ArgMatches) → words ≡ name ∷ rest → is_some (positionals_of rest) ≡ true → are_once rest ≡ true
     → HasMatchesOf words_app words m
-    → task_of words ≡ (options_in (first_value (found_of m)) >>= task_on name (found_words (rows_of (found_of m))))
+    → task_of words ≡ (options_in (found_text m) >>= task_on name (found_words (rows_of (found_of m))))
 line-read words rest name m w form once has =
     let p = had (positionals_of rest) form in
     let rows : rows_of (found_of m) ≡ matches_of words_app (name ∷ rest) = (has is_simple_app).0 ∙ ap (matches_of words_app) w in
     let on : p.0 ≡ found_words (rows_of (found_of m)) = sym (ap found_words rows ∙ words-matched name rest p.0 p.1 once) in
-    let options : options_in (λ name. value_of name rest) ≡ options_in (first_value (found_of m)) = options-agree (λ name. value_of name rest) (first_value (found_of m)) (λ id k.
+    let options : options_in (λ name. value_of name rest) ≡ options_in (found_text m) = options-agree (λ name. value_of name rest) (found_text m) (λ id k.
     sym (first_value-rows (found_of m) id ∙ ap (first_of id) rows ∙ value-matched name id rest p.0 p.1 once k)) in
     rw (w, p.1, once, options, on) refl

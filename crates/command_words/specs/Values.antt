@@ -1,5 +1,6 @@
 -- What the texts of the options stand for.
-use Rattle.std.specs.Prelude.{◌≡◌, ℕ, List, length, Option, Some, None, ℤ, pos, int_le, nat_lt, ◌&&◌, if◌then◌else◌, is_some, codes}
+use Rattle.std.specs.Prelude.{◌≡◌, ℕ, List, length, Option, Some, None, ℤ, pos, int_le, nat_lt, ◌&&◌, if◌then◌else◌, is_some, option_map, codes}
+use Rattle.std.specs.Borrow.{Bor}
 use Rattle.jiff.specs.Placed.{IsPosixZone}
 use Rattle.jiff.specs.ZoneView.{plain_zone}
 use Rattle.jiff_tz.specs.PosixReader.{read_whole}
@@ -60,6 +61,10 @@ first_day_given given = given >>= first_day_in
 abbrev pub number_or : ℕ → ℕ → ℕ → Option (List ℕ) → Option ℕ
 number_or usual low high None = Some usual
 number_or usual low high (Some text) = number_in low high text
+
+-- the text that the code holds, if it holds one
+abbrev pub text_given : Option (Bor (List ℕ)) → Option (List ℕ)
+text_given given = option_map (λ text. text.now) given
 
 -- The options whose texts stand under these names. The zone and the first day are needed; the numbers are
 -- days, real-time feeds, millimetres a second, millimetres, and thousandths of a millimetre.

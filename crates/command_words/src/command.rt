@@ -1,4 +1,4 @@
-ghost use Rattle.std.specs.Prelude.{◌≡◌, IfOk, IfSome, IsSomeAnd, MatchResult, map, string_bytes};
+ghost use Rattle.std.specs.Prelude.{◌≡◌, IfErr, IfOk, IfSome, IsSomeAnd, map, string_bytes};
 ghost use Rattle.otp_model.specs.Ranges.{AreOptionsInRange};
 ghost use Rattle.command_words.specs.Commands.{HasRanges, IsCommandOf, IsTask, Refuses, task_of};
 
@@ -72,7 +72,8 @@ impl<T: Drop> From<AllocFailed<T>> for WordsFault {
 /// (1,330), `--reach` from 0 to 5,000,000 mm (1,000,000), `--scale` from 0 to 111,195 (111,195). Each stands at
 /// most once.
 pub fn read_words(alloc: Global, words: &[String]) -> Result<Command<'_>, WordsFault>
-    ensures reads { MatchResult result (λ command. IsSomeAnd (task_of (map string_bytes words.now)) (IsTask command)) (Refuses (task_of (map string_bytes words.now))) }
+    ensures reads { IfOk result (λ command. IsSomeAnd (task_of (map string_bytes words.now)) (IsTask command)) }
+    ensures refuses { IfErr result (Refuses (task_of (map string_bytes words.now))) }
     ensures ranges { IfOk result HasRanges }
 {
     let Some((name, behind)) = words.split_first() else {

@@ -1,9 +1,9 @@
-ghost use Rattle.std.specs.Prelude.{◌≡◌, ◌≤◌, IfOk, IfSome, IsSomeAnd, MatchOption, MatchResult, None, option_map, pos, ◌≤ℤ◌};
-ghost use Rattle.clap.specs.Words.{first_value, found_of};
+ghost use Rattle.std.specs.Prelude.{◌≡◌, ◌≤◌, IfErr, IfOk, IfSome, IsNone, IsSomeAnd, None, pos, ◌≤ℤ◌};
 ghost use Rattle.otp_model.specs.Limits.{last_first_day};
 ghost use Rattle.otp_model.specs.Ranges.{AreOptionsInRange};
+ghost use Rattle.command_words.specs.App.{found_text};
 ghost use Rattle.command_words.specs.Commands.{Refuses};
-ghost use Rattle.command_words.specs.Values.{AreAsked, IsNamed, first_day_given, number_or, options_in, zone_given};
+ghost use Rattle.command_words.specs.Values.{AreAsked, IsNamed, first_day_given, number_or, options_in, text_given, zone_given};
 
 use crate::command::WordsFault;
 use clap::ArgMatches;
@@ -22,7 +22,8 @@ pub struct NamedZone<'a> {
 /// The options that clap found, by name.
 #[tactic(auto, unfolding(crate::specs::Values::options_in))]
 pub fn options_in(alloc: Global, found: &ArgMatches<'_>) -> Result<Options, WordsFault>
-    ensures reads { MatchResult result (λ options. IsSomeAnd (options_in (first_value (found_of found.now))) (λ asked. AreAsked asked options)) (Refuses (options_in (first_value (found_of found.now)))) }
+    ensures reads { IfOk result (λ options. IsSomeAnd (options_in (found_text found.now)) (λ asked. AreAsked asked options)) }
+    ensures refuses { IfErr result (Refuses (options_in (found_text found.now))) }
     ensures ranges { IfOk result AreOptionsInRange }
 {
     let zone = zone_in(found.get_str("zone")).ok_or(WordsFault::Words)?;
@@ -50,7 +51,8 @@ pub fn options_in(alloc: Global, found: &ArgMatches<'_>) -> Result<Options, Word
 
 /// The zone of NAME=RULE, cut at the first `=`.
 fn zone_in(text: Option<&str>) -> Option<NamedZone<'_>>
-    ensures { MatchOption result (zone_given (option_map (λ text. text.now) text.entry) ≡ None) (λ zone. IsSomeAnd (zone_given (option_map (λ text. text.now) text.entry)) (λ named. IsNamed named zone)) }
+    ensures zone { IfSome result (λ zone. IsSomeAnd (zone_given (text_given text.entry)) (λ named. IsNamed named zone)) }
+    ensures none { IsNone result → zone_given (text_given text.entry) ≡ None }
 {
     let (name, rule) = text?.split_once('=')?;
     if name.len() == 0 || rule.len() == 0 {
@@ -64,7 +66,7 @@ fn zone_in(text: Option<&str>) -> Option<NamedZone<'_>>
 
 /// A day of the years 1970 to 2998.
 fn first_day_in(text: Option<&str>) -> Option<DayNo>
-    ensures day { result ≡ first_day_given (option_map (λ text. text.now) text.entry) }
+    ensures day { result ≡ first_day_given (text_given text.entry) }
     ensures range { IfSome result (λ day. (pos 0 ≤ℤ day) × (day ≤ℤ pos last_first_day)) }
 {
     let day = parse_day(text?)?;
@@ -77,7 +79,7 @@ fn first_day_in(text: Option<&str>) -> Option<DayNo>
 /// A number from `low` to `high`, or `usual` where none is given.
 fn number_or(usual: u32, low: u32, high: u32, text: Option<&str>) -> Option<u32>
     requires range { (low ≤ usual) × (usual ≤ high) }
-    ensures number { result ≡ number_or usual low high (option_map (λ text. text.now) text.entry) }
+    ensures number { result ≡ number_or usual low high (text_given text.entry) }
     ensures range { IfSome result (λ n. (low ≤ n) × (n ≤ high)) }
 {
     let Some(text) = text else {
