@@ -1,9 +1,8 @@
 -- What clap gives for words that keep to the rules.
 use Rattle.std.proofs.Common.{◌≡◌, ◌∙◌, Bool, true, false, List, [], ◌∷◌, Option, Some, None, cond, refl, ap, codes, arith, option_map, slice_get}
 use Rattle.std.specs.Prelude.{fold, find, unwrap_or, option_and_then, nat_le}
-use Rattle.std.specs.List.{list_all, list_any}
+use Rattle.std.specs.List.{list_all}
 use Rattle.std.specs.Str.{bytes_eq}
-use Rattle.std.proofs.lemmas.Slice.Eq.{bytes_eq-Decides}
 use Rattle.std.proofs.lemmas.Bool.Decides.{nat_tests}
 use Rattle.clap.specs.Walk.{Held, walk, walk_from, Row, Rule, Text, all_of, finished, first_of, has_row, is_empty, nothing_held, settled, with_default}
 use Rattle.clap.specs.Simple.{built, matches_of}
@@ -12,9 +11,8 @@ use Rattle.clap.proofs.TakesLemmas.{leaf_takes}
 use Rattle.clap.proofs.SimpleLemmas.{is_nil}
 use Rattle.clap.proofs.WalkLemmas.{both}
 use Rattle.command_words.specs.App.{words_app}
-use Rattle.command_words.specs.Texts.{are_once}
-use Rattle.command_words.specs.Words.{is_once, option_names, positionals_of, value_of}
-use Rattle.command_words.proofs.ClapSteps.{IsKnown, dashed, is_simple_app, rules}
+use Rattle.command_words.specs.Words.{are_once, is_once, option_names, positionals_of, value_of}
+use Rattle.command_words.proofs.ClapSteps.{IsKnown, all-has, is_simple_app, rules}
 use Rattle.command_words.proofs.ClapRows.{texts_at}
 use Rattle.command_words.proofs.ClapWalk.{Fresh, Goes, uses, walks}
 
@@ -38,19 +36,9 @@ finished-is h = no-defaults rules (settled rules h).rows refl
 
 -- ---- each option is used once at most
 
-all-any : (p : Text → Bool) (word : Text) (names : List Text) → list_all p names ≡ true → list_any (bytes_eq word) names ≡ true → p word ≡ true
-all-any p word [] all any = cc
-all-any p word (name ∷ names) all any =
-    let parts = both (p name) (list_all p names) all in
-    go (bytes_eq word name) refl parts.0 (all-any p word names parts.1)
-  where
-    go : (b : Bool) → bytes_eq word name ≡ b → p name ≡ true → (list_any (bytes_eq word) names ≡ true → p word ≡ true) → p word ≡ true
-    go true e here further = let is : word ≡ name = (bytes_eq-Decides word name).0 e in rw is here
-    go false e here further = further (rw e at any)
-
 fresh : (words : List Text) → are_once words ≡ true → Fresh words []
 fresh words once id k =
-    let one : nat_le (uses id words) 1 ≡ true = all-any (is_once words) (dashed id) option_names once k.option in
+    let one : nat_le (uses id words) 1 ≡ true = all-has (is_once words) id option_names once k.has in
     grind (arith, nat_tests)
 
 goes : (words positionals : List Text) → positionals_of words ≡ Some positionals → are_once words ≡ true → Goes words positionals [] (walk_from nothing_held)
@@ -80,6 +68,6 @@ first-text id rows = go (find (λ r. bytes_eq r.id id) rows)
 
 -- and so is the value of each option
 pub value-matched : (name id : Text) (words positionals : List Text) → positionals_of words ≡ Some positionals → are_once words ≡ true → IsKnown id
-    → first_of id (matches_of words_app (name ∷ words)) ≡ value_of (dashed id) words
+    → first_of id (matches_of words_app (name ∷ words)) ≡ value_of id words
 value-matched name id words positionals h once k =
     first-text id _ ∙ ap (λ rows. slice_get (texts_at id rows) 0) (rows-are name words) ∙ (goes words positionals h once).1.values id k refl

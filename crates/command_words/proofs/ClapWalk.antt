@@ -12,8 +12,8 @@ use Rattle.command_words.proofs.WordFacts.{plain-first}
 use Rattle.clap.specs.Walk.{Row, Text, Walk, has_row, reading_by, settled, settled_rows, walked, with_values}
 use Rattle.clap.specs.Takes.{settle_passes, walk_passes}
 use Rattle.clap.specs.declared.parser.matches.ValueSource.TheVariants.{CommandLine}
-use Rattle.command_words.specs.Words.{is_option, is_plain, positionals_of, value_of}
-use Rattle.command_words.proofs.ClapSteps.{IsKnown, dashed, known, option-passes, option-step, option_of, positional-passes, positional-step, positional_of, ready, rules, shape, value-passes, value-step}
+use Rattle.command_words.specs.Words.{dashed, is_option, is_plain, positionals_of, value_of}
+use Rattle.command_words.proofs.ClapSteps.{IsKnown, known, option-passes, option-step, option_of, positional-passes, positional-step, positional_of, ready, rules, shape, value-passes, value-step}
 use Rattle.command_words.proofs.ClapRows.{has-other, none-texts, texts_at, with-other, with-same, without-none}
 
 -- ---- words within the rules, one use at a time
@@ -84,7 +84,7 @@ pub record Ends (given positionals : List Text) (rows : List Row) (end : Walk) :
   pub settles : settle_passes rules false end.held ≡ true
   pub stopped : end.stopped ≡ None
   pub words : texts_at (codes "words") (settled rules end.held).rows ≡ texts_at (codes "words") rows ++ positionals
-  pub values : (id : Text) → IsKnown id → has_row id rows ≡ false → slice_get (texts_at id (settled rules end.held).rows) 0 ≡ value_of (dashed id) given
+  pub values : (id : Text) → IsKnown id → has_row id rows ≡ false → slice_get (texts_at id (settled rules end.held).rows) 0 ≡ value_of id given
   pub stays : (id : Text) → IsKnown id → uses id given ≡ 0 → texts_at id (settled rules end.held).rows ≡ texts_at id rows
 
 abbrev pub Goes : List Text → List Text → List Row → Walk → Type 0
@@ -119,7 +119,7 @@ no-words rows pending false settles fresh = (
   },
 )
 
-plain-value : (id : Text) (x : ℕ) (xs : Text) (rest : List Text) → (x == 45) ≡ false → value_of (dashed id) ((x ∷ xs) ∷ rest) ≡ value_of (dashed id) rest
+plain-value : (id : Text) (x : ℕ) (xs : Text) (rest : List Text) → (x == 45) ≡ false → value_of id ((x ∷ xs) ∷ rest) ≡ value_of id rest
 unfolding value_of
 plain-value id x xs rest p = rw p refl
 
@@ -133,7 +133,7 @@ option-uses : (used id : Text) (x : ℕ) (xs : Text) (rest : List Text) → (x =
 option-uses used id x xs rest p = first-uses id (dashed used) ((x ∷ xs) ∷ rest) ∙ ap (λ n. cond (bytes_eq used id) 1 0 + n) (plain-uses id x xs rest p)
 
 option-value : (used id : Text) (x : ℕ) (xs : Text) (rest : List Text) → (x == 45) ≡ false → (b : Bool) → bytes_eq used id ≡ b
-    → value_of (dashed id) (dashed used ∷ (x ∷ xs) ∷ rest) ≡ cond b (Some (x ∷ xs)) (value_of (dashed id) rest)
+    → value_of id (dashed used ∷ (x ∷ xs) ∷ rest) ≡ cond b (Some (x ∷ xs)) (value_of id rest)
 unfolding value_of
 option-value used id x xs rest p true e = rw e refl
 option-value used id x xs rest p false e = rw (e, p) refl
@@ -225,8 +225,8 @@ option-ends used x xs rest ps rows end u p new gone e =
     }
   where
     values : (id : Text) → IsKnown id → has_row id rows ≡ false → (b : Bool) → bytes_eq used id ≡ b
-        → slice_get (texts_at id (settled rules end.held).rows) 0 ≡ value_of (dashed id) (dashed used ∷ (x ∷ xs) ∷ rest)
-    values id k none true same = subst (λ i. slice_get (texts_at i (settled rules end.held).rows) 0 ≡ value_of (dashed i) (dashed used ∷ (x ∷ xs) ∷ rest)) ((bytes_eq-Decides used id).0 same)
+        → slice_get (texts_at id (settled rules end.held).rows) 0 ≡ value_of id (dashed used ∷ (x ∷ xs) ∷ rest)
+    values id k none true same = subst (λ i. slice_get (texts_at i (settled rules end.held).rows) 0 ≡ value_of i (dashed used ∷ (x ∷ xs) ∷ rest)) ((bytes_eq-Decides used id).0 same)
         (ap (λ ts. slice_get ts 0) (e.stays used u gone ∙ with-same used (reading_by (option_of used)) CommandLine ((x ∷ xs) ∷ []) rows u.same ∙ ap (λ ts. ts ++ (x ∷ xs) ∷ []) (none-texts used rows new))
         ∙ sym (option-value used used x xs rest p true u.same))
     values id k none false same =

@@ -1,13 +1,15 @@
 -- What the words are, by what clap found in them.
 use Rattle.std.proofs.Common.{◌≡◌, ◌∙◌, ℕ, true, List, ◌∷◌, Option, Some, None, is_some, refl, sym, ap, subst, codes}
 use Rattle.clap.specs.Words.{HasMatchesOf, first_of, found_of, matches_of, rows_of, takes}
+use Rattle.clap.proofs.WalkLemmas.{first_value-rows}
 use Rattle.clap.specs.declared.parser.matches.ArgMatches.{ArgMatches}
-use Rattle.command_words.specs.App.{found_texts, found_words, words_app}
-use Rattle.command_words.specs.Commands.{texts_in}
-use Rattle.command_words.specs.Texts.{are_once}
-use Rattle.command_words.specs.Words.{positionals_of}
+use Rattle.command_words.specs.App.{found_text, found_words, words_app}
+use Rattle.command_words.specs.Commands.{task_of, task_on}
+use Rattle.otp_base.specs.Optionals.{◌>>=◌}
+use Rattle.command_words.specs.Values.{options_in}
+use Rattle.command_words.specs.Words.{are_once, option_names, positionals_of, value_of}
 use Rattle.command_words.proofs.ClapFacts.{value-matched, words-matched, words-taken}
-use Rattle.command_words.proofs.ClapSteps.{is_simple_app, knows-zone, knows-from, knows-days, knows-feeds, knows-speed, knows-reach, knows-scale}
+use Rattle.command_words.proofs.ClapSteps.{IsKnown, has_name, is_simple_app, knows}
 
 had : (o : Option (List (List ℕ))) → is_some o ≡ true → (xs : List (List ℕ)) × (o ≡ Some xs)
 had None h = cc
@@ -20,21 +22,21 @@ line-taken words rest name w form once =
     let p = had (positionals_of rest) form in
     subst (λ ws. takes words_app ws ≡ true) (sym w) (words-taken name rest p.0 p.1 once)
 
--- and finds their positional words and the texts of their options
-pub line-found : (words rest : List (List ℕ)) (name : List ℕ) (m : ArgMatches) → words ≡ name ∷ rest → is_some (positionals_of rest) ≡ true → are_once rest ≡ true
+-- look-ups that agree on the options' names give the same options
+options-agree : (f g : List ℕ → Option (List ℕ)) → ((id : List ℕ) → IsKnown id → f id ≡ g id) → options_in f ≡ options_in g
+unfolding options_in
+options-agree f g same =
+    let on : (id : List ℕ) → has_name option_names id ≡ true → f id ≡ g id = λ id has. same id (knows id has) in
+    rw (on (codes "zone") refl, on (codes "from") refl, on (codes "days") refl, on (codes "feeds") refl, on (codes "speed") refl, on (codes "reach") refl, on (codes "scale") refl) refl
+
+-- and what it finds in them is what they ask for
+pub line-read : (words rest : List (List ℕ)) (name : List ℕ) (m : ArgMatches) → words ≡ name ∷ rest → is_some (positionals_of rest) ≡ true → are_once rest ≡ true
     → HasMatchesOf words_app words m
-    → (positionals_of rest ≡ Some (found_words (rows_of (found_of m)))) × (texts_in rest ≡ Some (found_texts (rows_of (found_of m))))
-line-found words rest name m w form once has =
+    → task_of words ≡ (options_in (found_text m) >>= task_on name (found_words (rows_of (found_of m))))
+line-read words rest name m w form once has =
     let p = had (positionals_of rest) form in
-    let rows : rows_of (found_of m) ≡ matches_of words_app (name ∷ rest) = (has is_simple_app).0 ∙ ap (matches_of words_app) w in (
-      p.1 ∙ ap Some (sym (ap found_words rows ∙ words-matched name rest p.0 p.1 once)),
-      rw once (ap Some (λ i. record {
-        zone = sym (ap (first_of (codes "zone")) rows ∙ value-matched name (codes "zone") rest p.0 p.1 once knows-zone) i;
-        from = sym (ap (first_of (codes "from")) rows ∙ value-matched name (codes "from") rest p.0 p.1 once knows-from) i;
-        days = sym (ap (first_of (codes "days")) rows ∙ value-matched name (codes "days") rest p.0 p.1 once knows-days) i;
-        feeds = sym (ap (first_of (codes "feeds")) rows ∙ value-matched name (codes "feeds") rest p.0 p.1 once knows-feeds) i;
-        speed = sym (ap (first_of (codes "speed")) rows ∙ value-matched name (codes "speed") rest p.0 p.1 once knows-speed) i;
-        reach = sym (ap (first_of (codes "reach")) rows ∙ value-matched name (codes "reach") rest p.0 p.1 once knows-reach) i;
-        scale = sym (ap (first_of (codes "scale")) rows ∙ value-matched name (codes "scale") rest p.0 p.1 once knows-scale) i;
-      })),
-    )
+    let rows : rows_of (found_of m) ≡ matches_of words_app (name ∷ rest) = (has is_simple_app).0 ∙ ap (matches_of words_app) w in
+    let on : p.0 ≡ found_words (rows_of (found_of m)) = sym (ap found_words rows ∙ words-matched name rest p.0 p.1 once) in
+    let options : options_in (λ name. value_of name rest) ≡ options_in (found_text m) = options-agree (λ name. value_of name rest) (found_text m) (λ id k.
+    sym (first_value-rows (found_of m) id ∙ ap (first_of id) rows ∙ value-matched name id rest p.0 p.1 once k)) in
+    rw (w, p.1, once, options, on) refl

@@ -1,8 +1,8 @@
 pub mod WordFacts
-pub mod GivesFacts
-pub mod TaskFacts
+pub mod NameFacts
 pub mod ClapSteps
 pub mod ClapRows
 pub mod ClapWalk
 pub mod ClapFacts
 pub mod FoundFacts
+pub mod ReadFacts

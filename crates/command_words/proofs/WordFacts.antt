@@ -1,6 +1,6 @@
 -- The rules for words, one word at a time.
 use Rattle.std.proofs.Common.{◌≡◌, ◌∙◌, ◌&&◌, ℕ, Bool, true, false, List, [], ◌∷◌, Option, Some, None, option_map, is_some, cond, refl, sym, ap}
-use Rattle.command_words.specs.Values.{◌>>=◌}
+use Rattle.otp_base.specs.Optionals.{◌>>=◌}
 use Rattle.command_words.specs.Words.{behind_option, is_option, is_plain, positionals_of}
 
 pub plain-first : (word : List ℕ) (rest : List (List ℕ)) → is_plain word ≡ true → positionals_of (word ∷ rest) ≡ option_map (λ xs. word ∷ xs) (positionals_of rest)

@@ -4,6 +4,7 @@ ghost use Rattle.command_words.specs.App.{option_rule, positional_rule, words_ap
 ghost use Rattle.command_words.specs.declared.command.WordsFault.TheVariants as faults;
 
 use crate::command::WordsFault;
+use crate::words::OPTION_NAMES;
 use clap::error::ErrorKind;
 use clap::{Arg, ArgAction, ArgMatches, Command, Error};
 use std::alloc::Global;
@@ -26,15 +27,11 @@ fn words_app<'a>(alloc: Global) -> Result<Command<'a>, WordsFault>
     ensures ok { IfOk result (λ command. app_of command ≡ words_app) }
     ensures err { IfErr result (λ e. e ≡ faults.Memory) }
 {
-    let command = Command::new(alloc, "kegqova")
-        .arg(option(alloc, "zone"))?
-        .arg(option(alloc, "from"))?
-        .arg(option(alloc, "days"))?
-        .arg(option(alloc, "feeds"))?
-        .arg(option(alloc, "speed"))?
-        .arg(option(alloc, "reach"))?
-        .arg(option(alloc, "scale"))?
-        .arg(positionals(alloc))?;
+    let mut command = Command::new(alloc, "kegqova");
+    for name in &OPTION_NAMES {
+        command = command.arg(option(alloc, name))?;
+    }
+    let command = command.arg(positionals(alloc))?;
     Ok(command)
 }
 

@@ -1,10 +1,10 @@
-ghost use Rattle.std.specs.Prelude.{◌≡◌, IfOk, map, string_bytes};
-ghost use Rattle.command_words.specs.Commands.{Gives, HasRanges, IsTask, task_of};
+ghost use Rattle.std.specs.Prelude.{◌≡◌, IfErr, IfOk, IfSome, IsSomeAnd, map, string_bytes};
+ghost use Rattle.otp_model.specs.Ranges.{AreOptionsInRange};
+ghost use Rattle.command_words.specs.Commands.{HasRanges, IsCommandOf, IsTask, Refuses, task_of};
 
 use crate::app::matches_in;
-use crate::texts::{are_once, texts_in};
-use crate::values::options_of;
-use crate::words::has_form;
+use crate::values::options_in;
+use crate::words::{are_once, has_form};
 use otp_base::Memory;
 use otp_model::Options;
 use std::alloc::{AllocError, AllocFailed, Global};
@@ -72,7 +72,8 @@ impl<T: Drop> From<AllocFailed<T>> for WordsFault {
 /// (1,330), `--reach` from 0 to 5,000,000 mm (1,000,000), `--scale` from 0 to 111,195 (111,195). Each stands at
 /// most once.
 pub fn read_words(alloc: Global, words: &[String]) -> Result<Command<'_>, WordsFault>
-    ensures reads { Gives IsTask (task_of (map string_bytes words.now)) result }
+    ensures reads { IfOk result (λ command. IsSomeAnd (task_of (map string_bytes words.now)) (IsTask command)) }
+    ensures refuses { IfErr result (Refuses (task_of (map string_bytes words.now))) }
     ensures ranges { IfOk result HasRanges }
 {
     let Some((name, behind)) = words.split_first() else {
@@ -82,18 +83,27 @@ pub fn read_words(alloc: Global, words: &[String]) -> Result<Command<'_>, WordsF
         return Err(WordsFault::Words);
     }
     let matches = matches_in(alloc, words)?;
-    let texts = texts_in(&matches);
-    let options = options_of(alloc, &texts)?;
-    let Some(positionals) = matches.get_strs("words") else {
-        return Err(WordsFault::Words);
-    };
+    let options = options_in(alloc, &matches)?;
+    let positionals = matches.get_strs("words").unwrap_or(&[]);
+    match command_of(name.as_str(), positionals, options) {
+        Some(command) => Ok(command),
+        None => Err(WordsFault::Words),
+    }
+}
+
+/// The command of a name and positional words, if they are one's.
+fn command_of<'a>(name: &str, positionals: &[&'a str], options: Options) -> Option<Command<'a>>
+    requires { AreOptionsInRange options }
+    ensures command { IsCommandOf name.now (map (λ word. word.now) positionals.now) options result }
+    ensures ranges { IfSome result HasRanges }
+{
     match positionals {
-        [folder] if name.as_str() == "check" => Ok(Command::Check { folder, options }),
-        [folder, query] if name.as_str() == "plan" => Ok(Command::Plan {
+        [folder] if name == "check" => Some(Command::Check { folder, options }),
+        [folder, query] if name == "plan" => Some(Command::Plan {
             folder,
             query,
             options,
         }),
-        _ => Err(WordsFault::Words),
+        _ => None,
     }
 }

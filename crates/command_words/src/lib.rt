@@ -4,7 +4,6 @@
 
 mod app;
 mod command;
-mod texts;
 mod values;
 mod words;
 

@@ -1,5 +1,9 @@
 ghost use Rattle.std.specs.Prelude.{◌≡◌, is_some, map, option_map, string_bytes};
-ghost use Rattle.command_words.specs.Words.{behind_option, is_once, is_option, is_plain, positionals_of};
+ghost use Rattle.std.specs.Str.{bytes_eq};
+ghost use Rattle.command_words.specs.Words.{are_once, behind_option, dashed, is_once, is_option, is_plain, positionals_of};
+
+/// The options of `check` and `plan`, by name.
+pub const OPTION_NAMES: [&str; 7] = ["zone", "from", "days", "feeds", "speed", "reach", "scale"];
 
 /// Whether a word is not empty and doesn't begin with `-`.
 fn is_plain(word: &str) -> bool
@@ -11,24 +15,39 @@ fn is_plain(word: &str) -> bool
     }
 }
 
+/// Whether a word names this option.
+fn names(word: &str, option: &str) -> bool
+    ensures { result ≡ bytes_eq word.now (dashed option.now) }
+{
+    match word.as_bytes().strip_prefix(b"--") {
+        Some(name) => name == option.as_bytes(),
+        None => false,
+    }
+}
+
 /// Whether a word names an option of `check` and `plan`.
 fn is_option(word: &str) -> bool
     ensures { result ≡ is_option word.now }
 {
-    word == "--zone"
-        || word == "--from"
-        || word == "--days"
-        || word == "--feeds"
-        || word == "--speed"
-        || word == "--reach"
-        || word == "--scale"
+    OPTION_NAMES.iter().any(|name| names(word, name))
 }
 
-/// Whether a word stands at most once among the words.
-pub fn is_once(words: &[String], name: &str) -> bool
-    ensures { result ≡ is_once (map string_bytes words.now) name.now }
+/// Whether an option stands at most once among the words.
+fn is_once(words: &[String], option: &str) -> bool
+    ensures { result ≡ is_once (map string_bytes words.now) option.now }
 {
-    words.iter().filter(|word| word.as_str() == name).count() <= 1
+    let uses = words
+        .iter()
+        .filter(|word| names(word.as_str(), option))
+        .count();
+    uses <= 1
+}
+
+/// Whether each option stands at most once.
+pub fn are_once(words: &[String]) -> bool
+    ensures { result ≡ are_once (map string_bytes words.now) }
+{
+    OPTION_NAMES.iter().all(|name| is_once(words, name))
 }
 
 /// Whether each word is positional or an option with its value behind it.

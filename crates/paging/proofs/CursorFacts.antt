@@ -1,5 +1,5 @@
 -- What the text of a cursor spells.
-use Rattle.std.proofs.Common.{◌≡◌, ℕ, zero, suc, ◌+◌, ◌<◌, ◌^◌, Bool, true, false, List, [], ◌∷◌, ◌++◌, length, take, drop, get_or, Option, Some, None, Result, Ok, Err, IfOk, FitsSigned, w64, to_z, of_z, ℤ, pos, negsuc, refl, sym, ◌∙◌, ap, subst, arith, append_assoc}
+use Rattle.std.proofs.Common.{◌≡◌, ℕ, zero, suc, ◌+◌, ◌<◌, ◌^◌, Bool, true, false, List, [], ◌∷◌, ◌++◌, length, take, drop, get_or, Option, Some, None, FitsSigned, w64, to_z, of_z, ℤ, pos, negsuc, refl, sym, ◌∙◌, ap, subst, arith, append_assoc}
 use Rattle.std.specs.Prelude.{nat_lt, decimal, codes, if◌then◌else◌}
 use Rattle.std.specs.List.{before_first, after_first, position_or_len}
 use Rattle.std.specs.Str.{bytes_eq}
@@ -12,7 +12,9 @@ use Rattle.std.proofs.lemmas.List.Sums.{passes_at_first, position_or_len_is, spl
 use Rattle.std.proofs.lemmas.Slice.Eq.{bytes_eq-Decides}
 use Rattle.std.proofs.lemmas.Str.Parse.{digit_at}
 use Rattle.otp_model.specs.declared.journey.Cursor.{Cursor}
-use Rattle.paging.specs.Text.{◌>>=◌, FitsText, FitsTime, IsCursorOf, cursor_of, cursor_text_of, cut, is_byte, number_then, numbers_in, numbers_text}
+use Rattle.otp_base.specs.Cut.{cut, is_byte}
+use Rattle.otp_base.specs.Optionals.{◌>>=◌}
+use Rattle.paging.specs.Text.{FitsText, FitsTime, IsCursorOf, cursor_of, cursor_text_of, number_then, numbers_in, numbers_text}
 use Rattle.paging.proofs.NumberFacts.{plain_from, plain_is}
 
 -- a step that gave something had something to go on
@@ -207,8 +209,3 @@ times_back c h =
     let text : ℤ → ℤ → List ℕ = λ t u. codes "v1-" ++ numbers_text c.commit t u c.value.rides c.value.cost in
     ap (λ t. text t (to_z w64 (of_z w64 c.value.arrival))) (to_z-of_z w64 c.value.departure (fits_word c.value.departure h.departure))
     ∙ ap (λ u. text c.value.departure u) (to_z-of_z w64 c.value.arrival (fits_word c.value.arrival h.arrival))
-
-pub text_reads_back : {E : Type 0} (c : Cursor) (bytes : List ℕ) (r : Result (List ℕ) E) → FitsText c → bytes ≡ cursor_text_of c
-    → IfOk r (λ text. text ≡ bytes) → IfOk r (λ text. cursor_of text ≡ Some c)
-text_reads_back c bytes (Ok text) h is e = ap cursor_of (e ∙ is) ∙ reads_back c h
-text_reads_back c bytes (Err e) h is k = tt

@@ -2,9 +2,10 @@
 -- 1 to 9 digits and each other number of 1 to 18. The form is this project's own.
 use Rattle.std.specs.Prelude.{◌≡◌, ℕ, ◌^◌, ◌<◌, ◌==◌, ◌≤ℤ◌, ◌<ℤ◌, ℤ, pos, Bool, false, List, [], ◌∷◌, ◌++◌, length, Option, Some, None, nat_lt, codes, decimal, if◌then◌else◌}
 use Rattle.std.specs.Fmt.{signed_decimal}
-use Rattle.std.specs.List.{before_first, after_first, position_or_len}
 use Rattle.std.specs.Str.{bytes_eq}
+use Rattle.otp_base.specs.Cut.{cut}
 use Rattle.otp_base.specs.Number.{number_of}
+use Rattle.otp_base.specs.Optionals.{◌>>=◌}
 use Rattle.otp_model.specs.declared.journey.Cursor.{Cursor}
 
 -- a time that is a number of at most 18 digits
@@ -27,18 +28,6 @@ numbers_text commit departure arrival rides cost =
 
 abbrev pub cursor_text_of : Cursor → List ℕ
 cursor_text_of c = codes "v1-" ++ numbers_text c.commit c.value.departure c.value.arrival c.value.rides c.value.cost
-
-infixl 10 ◌>>=◌
-abbrev pub ◌>>=◌ : {A B : Type 0} → Option A → (A → Option B) → Option B
-(Some x) >>= f = f x
-None >>= f = None
-
-abbrev pub is_byte : ℕ → ℕ → Bool
-is_byte c b = b == c
-
--- a text up to the first byte c, and what stands behind it
-abbrev pub cut : ℕ → List ℕ → Option (List ℕ × List ℕ)
-cut c text = if nat_lt (position_or_len (is_byte c) text) (length text) then Some (before_first (is_byte c) text, after_first (is_byte c) text) else None
 
 -- `b'-'`
 abbrev pub hyphen : ℕ

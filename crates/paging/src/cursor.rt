@@ -1,6 +1,7 @@
 ghost use Rattle.std.specs.Prelude.{◌≡◌, ◌≤◌, ◌<◌, ◌^◌, IfOk, IfSome, IsTrue, ◌↔◌, Some, pos, string_bytes, codes, ◌++◌};
 ghost use Rattle.std.specs.Option.{option_map};
-ghost use Rattle.paging.specs.Text.{FitsText, FitsTime, IsCursorOf, cursor_of, cursor_text_of, cut, has_leading_zero, number_then, numbers_in, numbers_text, plain_number_of};
+ghost use Rattle.otp_base.specs.Cut.{cut};
+ghost use Rattle.paging.specs.Text.{FitsText, FitsTime, IsCursorOf, cursor_of, cursor_text_of, has_leading_zero, number_then, numbers_in, numbers_text, plain_number_of};
 
 use otp_base::{Memory, Text, number};
 use otp_model::{Cursor, Time, Value};
@@ -47,7 +48,7 @@ pub fn cursor_text(alloc: Global, cursor: &Cursor) -> Result<Text, Memory>
         value.rides,
         value.cost,
     )?;
-    Text::from_str(alloc, text.as_str())
+    Ok(Text::from_string(text))
 }
 
 fn text_of(

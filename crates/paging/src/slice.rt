@@ -1,6 +1,7 @@
-ghost use Rattle.std.specs.Prelude.{◌≡◌, ◌↔◌, ◌<◌, IsTrue, IfOk, take, length};
+ghost use Rattle.std.specs.Prelude.{◌≡◌, ◌↔◌, ◌<◌, IsTrue, IfOk, take, length, option_map};
 ghost use Rattle.std.specs.Option.{option_copied};
-ghost use Rattle.paging.specs.Slice.{entries_above, is_above};
+ghost use Rattle.otp_model.specs.Whole.{is_after};
+ghost use Rattle.paging.specs.Slice.{cursor_at, entries_above};
 
 use otp_base::{List, Memory};
 use otp_model::{Found, Value};
@@ -38,7 +39,7 @@ fn entries_above(
 
 /// Whether a value is above another, if there is one.
 fn is_above(after: Option<&Value>, value: &Value) -> bool
-    ensures { result ≡ is_above (option_copied after.entry) value.now }
+    ensures { result ≡ is_after (option_map cursor_at (option_copied after.entry)) value.now }
 {
     match after {
         None => true,

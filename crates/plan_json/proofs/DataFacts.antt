@@ -1,17 +1,21 @@
 -- Replies have no floats.
-use Rattle.std.proofs.Common.{◌≡◌, ℕ, suc, ◌+◌, ◌-◌, ◌<◌, ◌≤◌, arith, ℤ, pos, negsuc, List, [], ◌∷◌, ◌++◌, length, get_or, take, map, false, Option, None, Some, refl}
+use Rattle.std.proofs.Common.{◌≡◌, ℕ, suc, ◌+◌, ◌-◌, ◌<◌, ◌≤◌, arith, ℤ, pos, negsuc, List, [], ◌∷◌, ◌++◌, length, get_or, take, map, false, Option, None, Some, IfSome, codes, refl, subst}
+use Rattle.std.specs.List.{All}
 use Rattle.std.proofs.lemmas.List.{map-append, take_more}
+use Rattle.std.proofs.lemmas.List.Elements.{All-get_or}
 use Rattle.otp_model.specs.declared.journey.Found.{Found}
 use Rattle.otp_model.specs.declared.journey.Leg.{Leg}
 use Rattle.otp_model.specs.declared.journey.Leg.TheVariants.{Walk, Ride}
 use Rattle.otp_model.specs.declared.timetable.Feed.{Feed}
-use Rattle.paging.specs.Text.{cursor_text_of}
-use Rattle.serde_json.specs.Data.{Data, string}
+use Rattle.otp_model.specs.declared.journey.Cursor.{Cursor}
+use Rattle.otp_model.specs.Laws.{cursor_behind}
+use Rattle.paging.specs.Text.{FitsText}
+use Rattle.serde_json.specs.Data.{Data, member, no_members, string}
 use Rattle.serde_json.specs.Find.{is_float, of_integer}
 use Rattle.serde_json.specs.View.{items_of}
-use Rattle.serde_json.specs.Written.{has_float, items_have_float}
-use Rattle.plan_json.specs.Journeys.{journey_data, leg_data}
-use Rattle.plan_json.specs.Plan.{cursor_behind, direct_data, next_data, plan_data}
+use Rattle.serde_json.specs.Written.{has_float, items_have_float, members_have_float}
+use Rattle.plan_json.specs.Journeys.{journey_data, leg_data, trip_text, with_start}
+use Rattle.plan_json.specs.Plan.{IsFoundOf, cursor_data, direct_data, plan_data}
 use Rattle.plan_json.specs.declared.body.Body.{Body}
 use Rattle.plan_json.specs.declared.body.Body.TheVariants.{Plan}
 
@@ -25,7 +29,11 @@ none-among f none (x ∷ xs) = rw (none x) (none-among f none xs)
 
 none-leg : (feed : Feed) (leg : Leg) → has_float (leg_data feed leg) ≡ false
 none-leg feed (Walk seconds) = refl
-none-leg feed (Ride trip day board alight) = rw (whole alight.arrival, whole board.departure) refl
+none-leg feed (Ride name board alight) = rw (whole alight.arrival, whole board.departure) (none-start name.start)
+  where
+    none-start : (start : Option ℕ) → members_have_float (with_start start (member (codes "trip") (string (trip_text feed name.trip)) no_members)) ≡ false
+    none-start None = refl
+    none-start (Some seconds) = refl
 
 none-journey : (feed : Feed) (found : Found) → has_float (journey_data feed found) ≡ false
 none-journey feed found =
@@ -35,14 +43,13 @@ none-direct : (direct : Option ℕ) → has_float (direct_data direct) ≡ false
 none-direct None = refl
 none-direct (Some seconds) = refl
 
-none-next : (commit : ℕ) (found : List Found) → has_float (next_data commit found) ≡ false
-none-next commit [] = refl
-none-next commit (found ∷ []) = refl
-none-next commit (found ∷ other ∷ rest) = none-next commit (other ∷ rest)
+none-cursor : (cursor : Option Cursor) → has_float (cursor_data cursor) ≡ false
+none-cursor None = refl
+none-cursor (Some cursor) = refl
 
 pub none-plan : (feed : Feed) (body : Body) → has_float (plan_data feed body) ≡ false
 none-plan feed (Plan commit cursor at_least page) =
-    rw (none-direct page.direct, none-among (journey_data feed) (none-journey feed) page.found, none-next commit page.found) refl
+    rw (none-direct page.direct, none-among (journey_data feed) (none-journey feed) page.found, none-cursor (cursor_behind commit page.found)) refl
 
 -- one value more of a list of values
 pub one-more : {X V D : Type 0} (view : V → D) (f : X → D) (values more : List V) (value : V) (xs : List X) (i : ℕ) (d : X) → i < length xs
@@ -51,9 +58,17 @@ one-more view f values more value xs i d below so_far is last =
     let item = take_more xs i d below in
     rw (is, item, map-append view values (value ∷ []), map-append f (take i xs) (get_or xs i d ∷ []), so_far, last) refl
 
-pub next-last : (commit : ℕ) (found : List Found) (d : Found) → 1 ≤ length found → next_data commit found ≡ string (cursor_text_of (cursor_behind commit (get_or found (length found - 1) d)))
-next-last commit [] d h = absurd (omega (arith, h))
-next-last commit (x ∷ []) d h = refl
-next-last commit (x ∷ y ∷ rest) d h =
+-- the cursor behind a page is at its last journey
+pub behind-last : (commit : ℕ) (found : List Found) (d : Found) → 1 ≤ length found → Some (record { commit = commit; value = (get_or found (length found - 1) d).value }) ≡ cursor_behind commit found
+behind-last commit [] d h = absurd (omega (arith, h))
+behind-last commit (x ∷ []) d h = refl
+behind-last commit (x ∷ y ∷ rest) d h =
     let back : length (x ∷ y ∷ rest) - 1 ≡ suc (length (y ∷ rest) - 1) = omega arith in
-    rw back (next-last commit (y ∷ rest) d (omega arith))
+    rw back (behind-last commit (y ∷ rest) d (omega arith))
+
+-- and fits its text where each journey's does
+pub behind-fits : (feed : Feed) (commit : ℕ) (found : List Found) → All (IsFoundOf feed commit) found → IfSome (cursor_behind commit found) FitsText
+behind-fits feed commit [] all = tt
+behind-fits feed commit (x ∷ xs) all =
+    let last = All-get_or (IsFoundOf feed commit) (x ∷ xs) (length (x ∷ xs) - 1) x (omega arith) all in
+    subst (λ cursor. IfSome cursor FitsText) (behind-last commit (x ∷ xs) x (omega arith)) last.fits

@@ -1,3 +1,4 @@
+pub mod Clock
 pub mod Date
 pub mod Journeys
 pub mod Plan

@@ -1,10 +1,11 @@
 -- The reply to a plan request (its form is this project's own), as JSON with the keys in the order of their bytes.
-use Rattle.std.specs.Prelude.{ℕ, nat_lt, List, [], ◌∷◌, map, Bool, false, not, ◌==◌, Option, None, Some, codes}
+use Rattle.std.specs.Prelude.{ℕ, nat_lt, List, map, Bool, false, not, ◌==◌, Option, None, Some, codes}
 use Rattle.std.specs.List.{All}
 use Rattle.otp_model.specs.declared.journey.Cursor.{Cursor}
 use Rattle.otp_model.specs.declared.journey.Found.{Found}
 use Rattle.otp_model.specs.declared.journey.Page.{Page}
 use Rattle.otp_model.specs.declared.timetable.Feed.{Feed}
+use Rattle.otp_model.specs.Laws.{cursor_behind}
 use Rattle.paging.specs.Text.{FitsText, cursor_text_of}
 use Rattle.serde_json.specs.Data.{Data, null, boolean, number, string, array, object, unsigned, member, no_members}
 use Rattle.serde_json.specs.View.{items_of}
@@ -13,15 +14,14 @@ use Rattle.plan_json.specs.Journeys.{IsLegOf, journey_data}
 use Rattle.plan_json.specs.declared.body.Body.{Body}
 use Rattle.plan_json.specs.declared.body.Body.TheVariants.{Plan}
 
--- the cursor behind a journey of a reply of so many commits
-abbrev pub cursor_behind : ℕ → Found → Cursor
-cursor_behind commit found = record { commit = commit; value = found.value }
+-- the text of a cursor, or null where there is none
+abbrev pub cursor_data : Option Cursor → Data
+cursor_data None = null
+cursor_data (Some cursor) = string (cursor_text_of cursor)
 
--- the text of the cursor behind the last journey, or null where there is none
+-- the cursor behind the page
 abbrev pub next_data : ℕ → List Found → Data
-next_data commit [] = null
-next_data commit (found ∷ []) = string (cursor_text_of (cursor_behind commit found))
-next_data commit (found ∷ other ∷ rest) = next_data commit (other ∷ rest)
+next_data commit found = cursor_data (cursor_behind commit found)
 
 -- the seconds of the direct walk, or null
 abbrev pub direct_data : Option ℕ → Data
@@ -60,7 +60,7 @@ body_text feed body = compact_text (plan_data feed body)
 -- a journey whose rides name the feed's, and whose value and number of commits fit the text of a cursor
 pub record IsFoundOf (feed : Feed) (commit : ℕ) (found : Found) : Type 0 where
   pub legs : All (IsLegOf feed) found.journey.legs
-  pub fits : FitsText (cursor_behind commit found)
+  pub fits : FitsText (record { commit = commit; value = found.value })
 
 abbrev pub IsBodyOf : Feed → Body → Type 0
 IsBodyOf feed (Plan commit cursor at_least page) = All (IsFoundOf feed commit) page.found

@@ -1,8 +1,9 @@
-ghost use Rattle.std.specs.Prelude.{◌≡◌, IfOk};
+ghost use Rattle.std.specs.Prelude.{◌≡◌, IfOk, IfSome};
 ghost use Rattle.std.specs.List.{All};
+ghost use Rattle.otp_model.specs.Laws.{cursor_behind};
 ghost use Rattle.paging.specs.Text.{FitsText};
 ghost use Rattle.serde_json.specs.View.{view};
-ghost use Rattle.plan_json.specs.Plan.{IsBodyOf, IsFoundOf, body_text, cursor_behind, direct_data, is_moved, journeys_data, next_data, page_data, plan_data, plan_object};
+ghost use Rattle.plan_json.specs.Plan.{IsBodyOf, IsFoundOf, body_text, cursor_data, direct_data, is_moved, journeys_data, page_data, plan_data, plan_object};
 
 use crate::journeys::journey_value;
 use otp_base::{List, Memory};
@@ -59,17 +60,26 @@ fn journeys_value(
     Ok(Value::Array(values))
 }
 
-/// The text of the cursor behind the last journey.
-fn next_value(alloc: Global, number: u64, found: &[Found]) -> Result<Value, Memory>
-    requires { All (λ found. FitsText (cursor_behind number found)) found.now }
-    ensures { IfOk result (λ value. view value ≡ next_data number found.now) }
+/// The cursor behind a page of so many commits.
+fn cursor_behind(number: u64, found: &[Found]) -> Option<Cursor>
+    ensures { result ≡ cursor_behind number found.now }
 {
     let [.., last] = found else {
-        return Ok(Value::Null);
+        return None;
     };
-    let cursor = Cursor {
+    Some(Cursor {
         commit: number,
         value: last.value,
+    })
+}
+
+/// The text of a cursor.
+fn cursor_value(alloc: Global, cursor: Option<Cursor>) -> Result<Value, Memory>
+    requires { IfSome cursor FitsText }
+    ensures { IfOk result (λ value. view value ≡ cursor_data cursor) }
+{
+    let Some(cursor) = cursor else {
+        return Ok(Value::Null);
     };
     let text = cursor_text(alloc, &cursor)?;
     Ok(Value::try_from_str(alloc, text.as_str())?)
@@ -128,7 +138,7 @@ fn plan_value(
     let direct = direct_value(page.direct);
     let moved = is_moved(cursor, number);
     let journeys = journeys_value(alloc, feed, number, page.found.as_slice())?;
-    let next = next_value(alloc, number, page.found.as_slice())?;
+    let next = cursor_value(alloc, cursor_behind(number, page.found.as_slice()))?;
     let value = plan_object(
         alloc,
         PlanParts {

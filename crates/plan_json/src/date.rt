@@ -31,7 +31,7 @@ fn digits_of(alloc: Global, year: u16, month: u8, day: u8) -> Result<String, All
 }
 
 /// Writes two digits.
-fn push_two(text: &mut String, number: u8) -> Result<(), AllocError>
+pub fn push_two(text: &mut String, number: u8) -> Result<(), AllocError>
     requires { number < 100 }
     ensures { OnOk result (string_bytes text.new ≡ string_bytes text.old ++ two_digits number) }
 {

@@ -2,6 +2,7 @@
 #![tactic(auto)]
 
 mod body;
+mod clock;
 mod date;
 mod journeys;
 

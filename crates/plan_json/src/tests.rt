@@ -3,13 +3,14 @@ ghost use Rattle.paging.specs.Text.{FitsText};
 ghost use Rattle.plan_json.specs.Journeys.{IsRideOf};
 ghost use Rattle.plan_json.specs.Plan.{IsBodyOf};
 
+use crate::clock::clock_text;
 use crate::date::date_text;
 use crate::{Body, body_bytes};
 use jiff::tz::TimeZone;
 use otp_base::{List, Memory, Text};
 use otp_model::{
-    Call, Cursor, DayNo, Feed, Found, Journey, Leg, Page, Stop, StopNo, Time, Trip, TripNo, Value,
-    Zone,
+    Call, Cursor, Feed, Found, Journey, Leg, Page, RunName, Stop, StopNo, Time, Trip, TripName,
+    Value, Zone,
 };
 use std::alloc::Global;
 use std::test::Fail;
@@ -79,20 +80,18 @@ fn reply(
     alloc: Global,
     feed: &Feed,
     worth: Value,
-    trip: TripNo,
-    day: DayNo,
+    name: RunName,
     board: Call,
     alight: Call,
 ) -> Result<Body, Memory>
-    requires ride { IsRideOf feed.now trip day board alight }
+    requires ride { IsRideOf feed.now name board alight }
     requires fits { FitsText (record { commit = 0; value = worth }) }
     ensures { IfOk result (IsBodyOf feed.now) }
 {
     let mut legs = List::new(alloc);
     legs.push(Leg::Walk { seconds: 0 })?;
     legs.push(Leg::Ride {
-        trip,
-        day,
+        name,
         board,
         alight,
     })?;
@@ -130,27 +129,51 @@ fn writes_a_journey(rt: HostRuntime) -> Result<(), Fail> {
     let board = call(0, 1, 1_714_981_700, 1_714_981_800);
     let alight = call(1, 2, 1_714_984_800, 1_714_984_900);
     assert!(rt; board.stop == 0 && alight.stop == 1);
-    let body = reply(alloc, &feed, WORTH, 0, 19_849, board, alight)?;
+    let name = RunName {
+        trip: TripName::Planned(0),
+        day: 19_849,
+        start: None,
+    };
+    let body = reply(alloc, &feed, WORTH, name, board, alight)?;
     let bytes = body_bytes(alloc, &feed, &body)?;
     let text =
-        "{\"behind\":false,\"commit\":0,\"direct\":null,\"journeys\":[{\"arrival\":1714984800,\"cost\":360000,\"departure\":1714981800,\"legs\":[{\"kind\":\"walk\",\"seconds\":0},{\"alight\":{\"seq\":2,\"stop\":\"D\",\"time\":1714984800},\"board\":{\"seq\":1,\"stop\":\"A\",\"time\":1714981800},\"date\":\"20240506\",\"kind\":\"ride\",\"trip\":\"T3\"},{\"kind\":\"walk\",\"seconds\":0}],\"rides\":1}],\"more\":false,\"moved\":false,\"next\":\"v1-0-1714981800-1714984800-1-360000\"}";
+        r#"{"behind":false,"commit":0,"direct":null,"journeys":[{"arrival":1714984800,"cost":360000,"departure":1714981800,"legs":[{"kind":"walk","seconds":0},{"alight":{"seq":2,"stop":"D","time":1714984800},"board":{"seq":1,"stop":"A","time":1714981800},"date":"20240506","kind":"ride","trip":"T3"},{"kind":"walk","seconds":0}],"rides":1}],"more":false,"moved":false,"next":"v1-0-1714981800-1714984800-1-360000"}"#;
+    assert!(rt; bytes.as_slice() == text.as_bytes());
+    Ok(())
+}
+
+/// A ride of an added trip with a start, and with ids that JSON escapes.
+#[test]
+fn writes_a_start(rt: HostRuntime) -> Result<(), Fail> {
+    let alloc = rt.alloc();
+    let feed = feed(alloc, ["a\"b\\", "\u{1}\n\u{1D11E}"], "T3")?;
+    assert!(rt; feed.stops.len() > 1 && feed.trips.len() > 0);
+    let board = call(0, 1, 5, 5);
+    let alight = call(1, 2, 6, 6);
+    assert!(rt; board.stop == 0 && alight.stop == 1);
+    let name = RunName {
+        trip: TripName::Added(Text::from_str(alloc, "/")?),
+        day: 0,
+        start: Some(90_061),
+    };
+    let body = reply(alloc, &feed, WORTH, name, board, alight)?;
+    let bytes = body_bytes(alloc, &feed, &body)?;
+    let text =
+        "{\"behind\":false,\"commit\":0,\"direct\":null,\"journeys\":[{\"arrival\":1714984800,\"cost\":360000,\"departure\":1714981800,\"legs\":[{\"kind\":\"walk\",\"seconds\":0},{\"alight\":{\"seq\":2,\"stop\":\"\\u0001\\n\u{1D11E}\",\"time\":6},\"board\":{\"seq\":1,\"stop\":\"a\\\"b\\\\\",\"time\":5},\"date\":\"19700101\",\"kind\":\"ride\",\"start\":\"25:01:01\",\"trip\":\"/\"},{\"kind\":\"walk\",\"seconds\":0}],\"rides\":1}],\"more\":false,\"moved\":false,\"next\":\"v1-0-1714981800-1714984800-1-360000\"}";
     assert!(rt; bytes.as_slice() == text.as_bytes());
     Ok(())
 }
 
 #[test]
-fn escapes_ids(rt: HostRuntime) -> Result<(), Fail> {
-    let alloc = rt.alloc();
-    let feed = feed(alloc, ["a\"b\\", "\u{1}\n\u{1D11E}"], "/")?;
-    assert!(rt; feed.stops.len() > 1 && feed.trips.len() > 0);
-    let board = call(0, 1, 5, 5);
-    let alight = call(1, 2, 6, 6);
-    assert!(rt; board.stop == 0 && alight.stop == 1);
-    let body = reply(alloc, &feed, WORTH, 0, 0, board, alight)?;
-    let bytes = body_bytes(alloc, &feed, &body)?;
-    let text =
-        "{\"behind\":false,\"commit\":0,\"direct\":null,\"journeys\":[{\"arrival\":1714984800,\"cost\":360000,\"departure\":1714981800,\"legs\":[{\"kind\":\"walk\",\"seconds\":0},{\"alight\":{\"seq\":2,\"stop\":\"\\u0001\\n\u{1D11E}\",\"time\":6},\"board\":{\"seq\":1,\"stop\":\"a\\\"b\\\\\",\"time\":5},\"date\":\"19700101\",\"kind\":\"ride\",\"trip\":\"/\"},{\"kind\":\"walk\",\"seconds\":0}],\"rides\":1}],\"more\":false,\"moved\":false,\"next\":\"v1-0-1714981800-1714984800-1-360000\"}";
-    assert!(rt; bytes.as_slice() == text.as_bytes());
+fn writes_clocks(rt: HostRuntime) -> Result<(), Fail> {
+    for (seconds, text) in [
+        (0, "00:00:00"),
+        (35_999, "09:59:59"),
+        (36_000, "10:00:00"),
+        (3_599_999, "999:59:59"),
+    ] {
+        assert_eq!(rt; clock_text(rt.alloc(), seconds)?.as_str(), text);
+    }
     Ok(())
 }
 
@@ -162,12 +185,12 @@ fn writes_an_empty_page(rt: HostRuntime) -> Result<(), Fail> {
         (
             0,
             Some(77),
-            "{\"behind\":true,\"commit\":1,\"direct\":77,\"journeys\":[],\"more\":true,\"moved\":true,\"next\":null}",
+            r#"{"behind":true,"commit":1,"direct":77,"journeys":[],"more":true,"moved":true,"next":null}"#,
         ),
         (
             1,
             None,
-            "{\"behind\":true,\"commit\":1,\"direct\":null,\"journeys\":[],\"more\":true,\"moved\":false,\"next\":null}",
+            r#"{"behind":true,"commit":1,"direct":null,"journeys":[],"more":true,"moved":false,"next":null}"#,
         ),
     ] {
         let cursor = Cursor {

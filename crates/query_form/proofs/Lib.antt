@@ -1,1 +1,4 @@
 pub mod PairFacts
+pub mod CursorFacts
+pub mod AddedFacts
+pub mod LeadsOn

@@ -4,12 +4,13 @@ use Rattle.std.specs.Prelude.{ℕ, List, Option, Some, None, Result, Ok, Err, Bo
 use Rattle.std.specs.List.{position}
 use Rattle.std.specs.Str.{bytes_eq}
 use Rattle.gtfs_records.specs.Fields.{degrees_of}
+use Rattle.otp_base.specs.Cut.{cut}
+use Rattle.otp_model.specs.Limits.{most_latitude, most_longitude}
 use Rattle.otp_model.specs.declared.timetable.Stop.{Stop}
 use Rattle.otp_model.specs.declared.timetable.Point.{Point}
 use Rattle.otp_model.specs.declared.journey.Place.{Place}
 use Rattle.otp_model.specs.declared.journey.Place.TheVariants as place
 use Rattle.otp_model.specs.Plane.{point_at}
-use Rattle.paging.specs.Text.{cut}
 use Rattle.query_form.specs.declared.fault.QueryFault.{QueryFault}
 use Rattle.query_form.specs.declared.fault.QueryFault.TheVariants as fault
 
@@ -35,7 +36,7 @@ point_of scale (Some latitude) (Some longitude) = Ok (at_point (point_at scale l
 -- a latitude, a comma and a longitude; up to the first comma
 abbrev pub degrees_in : ℕ → Option (List ℕ × List ℕ) → Result Place QueryFault
 degrees_in scale None = Err fault.Bad
-degrees_in scale (Some parts) = point_of scale (degrees_of 90000000 parts.0) (degrees_of 180000000 parts.1)
+degrees_in scale (Some parts) = point_of scale (degrees_of most_latitude parts.0) (degrees_of most_longitude parts.1)
 
 -- `b':'` and `b','`
 abbrev pub colon : ℕ

@@ -1,6 +1,8 @@
 -- What the query of a plan asks for. Names, ranges and defaults of the parameters are this project's own.
 use Rattle.std.specs.Prelude.{◌≡◌, ℕ, ◌≤◌, ◌^◌, List, Option, Some, None, Result, Ok, Err, codes, pos, ◌≤ℤ◌}
 use Rattle.otp_base.specs.Number.{number_in}
+use Rattle.otp_base.specs.Results.{◌>>=◌}
+use Rattle.otp_model.specs.Limits.{least_walk_points, most_board_points, most_rides, most_walk_points}
 use Rattle.otp_model.specs.declared.timetable.Stop.{Stop}
 use Rattle.otp_model.specs.declared.journey.Cursor.{Cursor}
 use Rattle.otp_model.specs.declared.journey.Place.{Place}
@@ -31,11 +33,6 @@ name_of parameter.BoardPoints = codes "board_points"
 name_of parameter.Page = codes "page"
 name_of parameter.Cursor = codes "cursor"
 name_of parameter.AtLeast = codes "at_least"
-
-infixl 10 ◌>>=◌
-abbrev pub ◌>>=◌ : {A B : Type 0} → Result A Refusal → (A → Result B Refusal) → Result B Refusal
-(Ok x) >>= f = f x
-(Err e) >>= f = Err e
 
 -- the fault of a parameter
 abbrev pub under : {A : Type 0} → Parameter → Result A QueryFault → Result A Refusal
@@ -89,13 +86,13 @@ request_in pairs stops scale = do
   to ← place_at pairs parameter.To stops scale
   time ← number_at pairs parameter.Time 0 9999999999 None
   window ← number_at pairs parameter.Window 1 86400 (Some 3600)
-  rides ← number_at pairs parameter.Rides 1 8 (Some 4)
+  rides ← number_at pairs parameter.Rides 1 most_rides (Some 4)
   slack ← number_at pairs parameter.Slack 0 3600 (Some 120)
-  walk_points ← number_at pairs parameter.WalkPoints 100 2000 (Some 200)
-  board_points ← number_at pairs parameter.BoardPoints 0 1000000 (Some 60000)
+  walk_points ← number_at pairs parameter.WalkPoints least_walk_points most_walk_points (Some 200)
+  board_points ← number_at pairs parameter.BoardPoints 0 most_board_points (Some 60000)
   page ← number_at pairs parameter.Page 1 200 (Some 20)
   cursor ← cursor_at pairs
-  at_least ← number_at pairs parameter.AtLeast 0 1099511627776 (Some 0)
+  at_least ← number_at pairs parameter.AtLeast 0 (2 ^ 40) (Some 0)
   Ok (record { from = from; to = to; time = pos time; window = window; rides = rides; slack = slack; walk_points = walk_points; board_points = board_points; page = page; cursor = cursor; at_least = at_least })
 
 abbrev pub query_of : List ℕ → List Stop → ℕ → Result Request Refusal

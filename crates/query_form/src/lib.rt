@@ -3,12 +3,14 @@
 #![tactic(auto)]
 
 mod fault;
+mod laws;
 mod pairs;
 mod parameter;
 mod place;
 mod query;
 
 pub use fault::{QueryFault, TargetFault};
+pub use laws::next_leads_on;
 pub use query::read_query;
 
 #[cfg(test)]

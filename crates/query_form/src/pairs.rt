@@ -42,8 +42,8 @@ pub fn pairs_of(alloc: Global, query: &str) -> Result<Vec<Pair>, Memory>
 fn decoded(alloc: Global, bytes: &[u8]) -> Result<Text, Memory>
     ensures { IfOk result (λ text. text ≡ text_of bytes.now) }
 {
-    let text = decode(alloc, bytes)?;
-    Text::from_str(alloc, &text)
+    let text = decode(alloc, bytes)?.into_owned(alloc)?;
+    Ok(Text::from_string(text))
 }
 
 /// The value under a name, if there is one; a fault where there are two.

@@ -1,7 +1,8 @@
 ghost use Rattle.std.specs.Prelude.{◌≡◌, ◌<◌, ◌≤◌, ◌^◌, IfOk, IfSome, length, option_map};
 ghost use Rattle.std.specs.List.{position};
+ghost use Rattle.otp_base.specs.Cut.{cut};
+ghost use Rattle.otp_model.specs.Limits.{most_scale};
 ghost use Rattle.otp_model.specs.Plane.{IsPlaceOf};
-ghost use Rattle.paging.specs.Text.{cut};
 ghost use Rattle.query_form.specs.Place.{degrees_in, is_place, of_kind, place_of, stop_of};
 
 use crate::fault::QueryFault;
@@ -13,7 +14,7 @@ use otp_model::{Place, Point, Stop};
 #[tactic(auto, unfolding(crate::specs::Place::place_of))]
 pub fn place(stops: &[Stop], scale: u32, text: &str) -> Result<Place, QueryFault>
     requires few { length stops.now < 2 ^ 32 }
-    requires scale { scale ≤ 111195 }
+    requires scale { scale ≤ most_scale }
     ensures place { result ≡ place_of stops.now scale text.now }
     ensures of { IfOk result (IsPlaceOf stops.now) }
 {
@@ -25,7 +26,7 @@ pub fn place(stops: &[Stop], scale: u32, text: &str) -> Result<Place, QueryFault
 
 fn of_kind(stops: &[Stop], scale: u32, kind: &str, text: &str) -> Result<Place, QueryFault>
     requires few { length stops.now < 2 ^ 32 }
-    requires scale { scale ≤ 111195 }
+    requires scale { scale ≤ most_scale }
     ensures place { result ≡ of_kind stops.now scale kind.now text.now }
     ensures of { IfOk result (IsPlaceOf stops.now) }
 {
@@ -58,12 +59,12 @@ fn number_of(stops: &[Stop], id: &str) -> Option<usize>
 fn is_place(stop: &Stop, id: &str) -> bool
     ensures { result ≡ is_place id.now stop.now }
 {
-    stop.kind <= 1 && stop.id.is(id)
+    stop.is_nameable() && stop.id.is(id)
 }
 
 /// The point at a latitude and a longitude.
 fn point(scale: u32, text: &str) -> Result<Place, QueryFault>
-    requires { scale ≤ 111195 }
+    requires { scale ≤ most_scale }
     ensures { result ≡ degrees_in scale (cut 44 text.now) }
 {
     let Some((latitude, longitude)) = cut_at_comma(text) else {

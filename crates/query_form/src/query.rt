@@ -1,4 +1,5 @@
 ghost use Rattle.std.specs.Prelude.{◌≡◌, ◌≤◌, ◌<◌, ◌^◌, IfOk, IfSome, length};
+ghost use Rattle.otp_model.specs.Limits.{most_scale};
 ghost use Rattle.otp_model.specs.Plane.{IsPlaceOf};
 ghost use Rattle.query_form.specs.Query.{Answers, IsAsked, cursor_at, number_at, place_at, query_of, request_in};
 
@@ -26,7 +27,7 @@ pub fn read_query(
     edges: &Edges,
 ) -> Result<Request, TargetFault>
     requires stops { length feed.now.stops < 2 ^ 32 }
-    requires scale { edges.now.profile.scale ≤ 111195 }
+    requires scale { edges.now.profile.scale ≤ most_scale }
     ensures request { Answers result (query_of query.now feed.now.stops edges.now.profile.scale) }
     ensures asked { IfOk result (IsAsked feed.now.stops) }
 {
@@ -41,7 +42,7 @@ pub fn read_query(
 #[tactic(auto, unfolding(crate::specs::Query::request_in))]
 fn request(pairs: &[Pair], stops: &[Stop], scale: u32) -> Result<Request, Refusal>
     requires stops { length stops.now < 2 ^ 32 }
-    requires scale { scale ≤ 111195 }
+    requires scale { scale ≤ most_scale }
     ensures request { result ≡ request_in pairs.now stops.now scale }
     ensures asked { IfOk result (IsAsked stops.now) }
 {
@@ -106,7 +107,7 @@ fn place_at(
     scale: u32,
 ) -> Result<Place, Refusal>
     requires stops { length stops.now < 2 ^ 32 }
-    requires scale { scale ≤ 111195 }
+    requires scale { scale ≤ most_scale }
     ensures place { result ≡ place_at pairs.now parameter stops.now scale }
     ensures of { IfOk result (IsPlaceOf stops.now) }
 {

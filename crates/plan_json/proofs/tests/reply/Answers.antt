@@ -1,5 +1,4 @@
-use Rattle.std.proofs.Common.{◌≡◌, List, [], ◌∷◌, ◌++◌, w32}
-use Rattle.std.proofs.lemmas.Int.{to_z-of_z}
+use Rattle.std.proofs.Common.{◌≡◌, List, [], ◌∷◌, ◌++◌}
 use Rattle.std.specs.List.{All}
 use Rattle.std.proofs.lemmas.List.Elements.{All-nil, All-push}
 use Rattle.plan_json.specs.Journeys.{IsLegOf}
@@ -16,5 +15,5 @@ pub returns : goal.returns
 returns c =
     let legs = one_more (IsLegOf c.args.feed.now) _ _ _ c.in_ok-push-3.ensures.ok
     (one_more (IsLegOf c.args.feed.now) _ _ _ c.in_ok-push-2.ensures.ok
-    (one_more (IsLegOf c.args.feed.now) _ _ _ c.in_ok-push.ensures.ok (none (IsLegOf c.args.feed.now) _ c.new-legs.ensures) tt) (rw (to_z-of_z w32 c.args.day c.ranges.day) c.requires.ride)) tt in
+    (one_more (IsLegOf c.args.feed.now) _ _ _ c.in_ok-push.ensures.ok (none (IsLegOf c.args.feed.now) _ c.new-legs.ensures) tt) c.requires.ride) tt in
     one_more (IsFoundOf c.args.feed.now 0) _ _ _ c.in_ok-push-4.ensures.ok (none (IsFoundOf c.args.feed.now 0) _ c.new-found.ensures) (record { legs = legs; fits = c.requires.fits })
