@@ -1,10 +1,12 @@
 -- The edges from a stop.
-use Rattle.std.proofs.Common.{arith, ◌≡◌, ◌↔◌, ℕ, ◌*◌, ◌+◌, ◌-◌, ◌<◌, ◌≤◌, List, [], ◌∷◌, ◌++◌, length, Option, Some, None, ◌⊎◌, inl, inr, refl, sym, ap, subst, ◌∙◌}
-use Rattle.std.specs.List.{Any, Contains, slice_get}
+use Rattle.std.proofs.Common.{arith, ◌≡◌, ◌↔◌, ℕ, ◌*◌, ◌+◌, ◌-◌, ◌<◌, ◌≤◌, List, [], ◌∷◌, ◌++◌, length, get_or, take, Option, Some, None, ◌⊎◌, inl, inr, refl, sym, ap, subst, ◌∙◌}
+use Rattle.std.specs.List.{All, Any, Contains, slice_get}
+use Rattle.std.specs.List.Sorted.{IsStrictlyIncreasing}
 use Rattle.std.specs.Option.{IsSome}
-use Rattle.std.proofs.lemmas.List.{length_push}
+use Rattle.std.proofs.lemmas.Bool.{cases_lt}
+use Rattle.std.proofs.lemmas.List.{get_or_default, get_or_past, length_push}
 use Rattle.std.proofs.lemmas.List.Sums.{sum_by_push}
-use Rattle.std.proofs.lemmas.Option.{same_Some, slice_get_within}
+use Rattle.std.proofs.lemmas.Option.{same_Some}
 use Rattle.otp_model.specs.declared.links.TransferRow.{TransferRow}
 use Rattle.otp_model.specs.declared.timetable.Edge.{Edge}
 use Rattle.otp_model.specs.declared.timetable.Point.{Point}
@@ -12,8 +14,8 @@ use Rattle.otp_model.specs.declared.timetable.Profile.{Profile}
 use Rattle.otp_model.specs.declared.timetable.Stop.{Stop}
 use Rattle.std.specs.Int.{div_ceil}
 use Rattle.otp_model.specs.Plane.{IsDistance, point_of, square_apart}
-use Rattle.otp_base.specs.Adds.{Adds, FromBelow, FromSome, IsOnly}
-use Rattle.otp_base.proofs.AddsLemmas.{adds_as, adds_more_below, adds_option, Contains-adds}
+use Rattle.otp_base.specs.Adds.{Adds, FromSome, IsOnly}
+use Rattle.otp_base.proofs.AddsLemmas.{adds_as, adds_more_some, adds_option, adds_some_all, Contains-adds}
 use Rattle.otp_model.specs.Limits.{most_edges}
 use Rattle.otp_model.specs.Limits.{most_reach}
 use Rattle.walk_table.specs.declared.fault.EdgesFault.{EdgesFault}
@@ -21,6 +23,7 @@ use Rattle.walk_table.specs.declared.fault.EdgesFault.TheVariants.{TooMany, Memo
 use Rattle.walk_table.specs.Faults.{HasMoreFrom, IsCause, IsCauseFrom, IsOverfull}
 use Rattle.otp_base.specs.EachAt.{EachAt}
 use Rattle.walk_table.specs.Edges.{AreEdgesFrom, AreNear, AreRising, edge_count, Holds, HasMinimum, IsEdge, IsEdgeUnder, IsGreatest}
+use Rattle.walk_table.specs.Near.{AreCandidates}
 use Rattle.walk_table.specs.Rows.{Arrives, BarsWayTo, IsAmong, IsEdgeTo, IsGiven, IsLeaving, IsMinimum}
 use Rattle.walk_table.specs.Walks.{IsWalkOver}
 use Rattle.otp_base.proofs.EachAtLemmas.{each_push, each_weaker}
@@ -124,36 +127,58 @@ adds_edge stops rows profile p from n to xs ys e = adds_as (IsEdgeTo stops rows 
     (λ x h. subst (λ (s : Stop). IsEdgeTo stops rows profile p from n s x) (same_Some h.0 to (sym h.1 ∙ e)) h.2)
 
 -- what was added is edges from the stop
-edges_part : (stops : List Stop) (transfers rows : List TransferRow) (profile : Profile) (p : ℕ) (from : Stop) (n : ℕ) (list : List Edge) → slice_get stops p ≡ Some from → ((row : TransferRow) → Contains rows row ↔ FromSome (IsLeaving stops p from) transfers row) → Adds (FromBelow (IsEdgeAt stops rows profile p from) n) [] list → (edge : Edge) → Contains list edge → IsEdge stops transfers profile p edge
-edges_part stops transfers rows profile p from n list e exact h edge c =
-    let g = (Contains-adds (FromBelow (IsEdgeAt stops rows profile p from) n) list h edge).0 c in
+edges_part : (stops : List Stop) (transfers rows : List TransferRow) (profile : Profile) (p : ℕ) (from : Stop) (numbers : List ℕ) (list : List Edge) → slice_get stops p ≡ Some from → ((row : TransferRow) → Contains rows row ↔ FromSome (IsLeaving stops p from) transfers row) → Adds (FromSome (IsEdgeAt stops rows profile p from) numbers) [] list → (edge : Edge) → Contains list edge → IsEdge stops transfers profile p edge
+edges_part stops transfers rows profile p from numbers list e exact h edge c =
+    let g = (Contains-adds (FromSome (IsEdgeAt stops rows profile p from) numbers) list h edge).0 c in
     edge_of stops transfers rows profile p from g.0 edge e exact g.2
 
--- all stops were gone through
-pub edges_whole : (stops : List Stop) (transfers rows : List TransferRow) (profile : Profile) (p : ℕ) (from : Stop) (n : ℕ) (list : List Edge) → slice_get stops p ≡ Some from → ((row : TransferRow) → Contains rows row ↔ FromSome (IsLeaving stops p from) transfers row) → length stops ≤ n → Adds (FromBelow (IsEdgeAt stops rows profile p from) n) [] list → IsRisingTo (λ edge. edge.to) n list → AreEdgesFrom stops transfers profile p list
-edges_whole stops transfers rows profile p from n list e exact l h rising = record {
-  rises = rising.rises;
-  has = λ edge is.
-      let below : edge.to < length stops = slice_get_within stops edge.to is.to is.to_is in
-      (Contains-adds (FromBelow (IsEdgeAt stops rows profile p from) n) list h edge).1 (edge.to, omega arith, of_edge stops transfers rows profile p from edge e exact is);
-  only = edges_part stops transfers rows profile p from n list e exact h;
-}
+-- the place of a candidate stands below the next, and the last below the count of stops
+abbrev pub next_at : List Stop → List ℕ → ℕ → ℕ
+next_at stops numbers i = get_or numbers i (length stops)
+
+pub next_rises : (stops : List Stop) (numbers : List ℕ) (i n : ℕ) → IsStrictlyIncreasing numbers → All (λ n. n < length stops) numbers → i < length numbers → n ≡ get_or numbers i n → (n ≡ next_at stops numbers i) × (n < next_at stops numbers (i + 1)) × (n < length stops)
+next_rises stops numbers i n rise within less is =
+    let here : n ≡ next_at stops numbers i = is ∙ get_or_default numbers i n (length stops) less in (
+      here,
+      elim (cases_lt (i + 1) (length numbers)) [
+        | inl more ↦
+            let one : n ≡ get_or numbers i 0 = is ∙ get_or_default numbers i n 0 less in
+            let next : get_or numbers (i + 1) 0 ≡ next_at stops numbers (i + 1) = get_or_default numbers (i + 1) 0 (length stops) more in
+            omega (arith, rise i more, one, next)
+        | inr end ↦
+            let last : next_at stops numbers (i + 1) ≡ length stops = get_or_past numbers (i + 1) (length stops) end in
+            omega (arith, within i n less, is, last)
+      ],
+      omega (arith, within i n less, is),
+    )
+
+-- all candidates were gone through
+pub edges_whole : (stops : List Stop) (transfers rows : List TransferRow) (profile : Profile) (p : ℕ) (from : Stop) (numbers : List ℕ) (i bound : ℕ) (list : List Edge) → slice_get stops p ≡ Some from → ((row : TransferRow) → Contains rows row ↔ FromSome (IsLeaving stops p from) transfers row) → AreCandidates stops rows profile p from numbers → length numbers ≤ i → Adds (FromSome (IsEdgeAt stops rows profile p from) (take i numbers)) [] list → IsRisingTo (λ edge. edge.to) bound list → AreEdgesFrom stops transfers profile p list
+edges_whole stops transfers rows profile p from numbers i bound list e exact candidates l h rising =
+    let all : Adds (FromSome (IsEdgeAt stops rows profile p from) numbers) [] list = adds_some_all (IsEdgeAt stops rows profile p from) numbers i [] list l h in
+    record {
+      rises = rising.rises;
+      has = λ edge is.
+          let at = of_edge stops transfers rows profile p from edge e exact is in
+          (Contains-adds (FromSome (IsEdgeAt stops rows profile p from) numbers) list all edge).1 (edge.to, candidates.has edge.to at.0 edge at.1 at.2, at);
+      only = edges_part stops transfers rows profile p from numbers list e exact all;
+    }
 
 -- one edge more than there is room for
-edges_over : (stops : List Stop) (transfers rows : List TransferRow) (profile : Profile) (p : ℕ) (from : Stop) (n : ℕ) (to : Stop) (room : ℕ) (list : List Edge) (o : Option Edge) → slice_get stops p ≡ Some from → ((row : TransferRow) → Contains rows row ↔ FromSome (IsLeaving stops p from) transfers row) → slice_get stops n ≡ Some to → Adds (FromBelow (IsEdgeAt stops rows profile p from) n) [] list → IsRisingTo (λ edge. edge.to) n list → IsOnly (IsEdgeTo stops rows profile p from n to) o → IsSome o → room ≤ length list → HasMoreFrom room stops transfers profile p
-edges_over stops transfers rows profile p from n to room list None e exact at h rising only some full = absurd (cc some)
-edges_over stops transfers rows profile p from n to room list (Some edge) e exact at h rising only some full = (
+edges_over : (stops : List Stop) (transfers rows : List TransferRow) (profile : Profile) (p : ℕ) (from : Stop) (numbers : List ℕ) (i n : ℕ) (to : Stop) (room : ℕ) (list : List Edge) (o : Option Edge) → slice_get stops p ≡ Some from → ((row : TransferRow) → Contains rows row ↔ FromSome (IsLeaving stops p from) transfers row) → slice_get stops n ≡ Some to → i < length numbers → n ≡ get_or numbers i n → Adds (FromSome (IsEdgeAt stops rows profile p from) (take i numbers)) [] list → IsRisingTo (λ edge. edge.to) n list → IsOnly (IsEdgeTo stops rows profile p from n to) o → IsSome o → room ≤ length list → HasMoreFrom room stops transfers profile p
+edges_over stops transfers rows profile p from numbers i n to room list None e exact at less is h rising only some full = absurd (cc some)
+edges_over stops transfers rows profile p from numbers i n to room list (Some edge) e exact at less is h rising only some full = (
   list ++ edge ∷ [],
   (rising_more (λ (x : Edge). x.to) n (IsEdgeTo stops rows profile p from n to) list (list ++ edge ∷ []) (Some edge) (λ x g. g.0) refl only rising).rises,
-  edges_part stops transfers rows profile p from (n + 1) (list ++ edge ∷ []) e exact
-      (adds_more_below (IsEdgeAt stops rows profile p from) n [] list (list ++ edge ∷ []) h
+  edges_part stops transfers rows profile p from (take (i + 1) numbers) (list ++ edge ∷ []) e exact
+      (adds_more_some (IsEdgeAt stops rows profile p from) numbers i n [] list (list ++ edge ∷ []) less is h
       (adds_edge stops rows profile p from n to list (list ++ edge ∷ []) at (adds_option (IsEdgeTo stops rows profile p from n to) list (list ++ edge ∷ []) (Some edge) refl only))),
   omega (arith, length_push list edge),
 )
 
-pub cause_from : (stops : List Stop) (transfers rows : List TransferRow) (profile : Profile) (p : ℕ) (from : Stop) (n : ℕ) (to : Stop) (room : ℕ) (list : List Edge) (o : Option Edge) (fault : EdgesFault) → slice_get stops p ≡ Some from → ((row : TransferRow) → Contains rows row ↔ FromSome (IsLeaving stops p from) transfers row) → slice_get stops n ≡ Some to → Adds (FromBelow (IsEdgeAt stops rows profile p from) n) [] list → IsRisingTo (λ edge. edge.to) n list → IsOnly (IsEdgeTo stops rows profile p from n to) o → IsOverfull list o room fault → IsCauseFrom stops transfers profile p room fault
-cause_from stops transfers rows profile p from n to room list o TooMany e exact at h rising only full = edges_over stops transfers rows profile p from n to room list o e exact at h rising only full.0 full.1
-cause_from stops transfers rows profile p from n to room list o Memory e exact at h rising only full = tt
+pub cause_from : (stops : List Stop) (transfers rows : List TransferRow) (profile : Profile) (p : ℕ) (from : Stop) (numbers : List ℕ) (i n : ℕ) (to : Stop) (room : ℕ) (list : List Edge) (o : Option Edge) (fault : EdgesFault) → slice_get stops p ≡ Some from → ((row : TransferRow) → Contains rows row ↔ FromSome (IsLeaving stops p from) transfers row) → slice_get stops n ≡ Some to → i < length numbers → n ≡ get_or numbers i n → Adds (FromSome (IsEdgeAt stops rows profile p from) (take i numbers)) [] list → IsRisingTo (λ edge. edge.to) n list → IsOnly (IsEdgeTo stops rows profile p from n to) o → IsOverfull list o room fault → IsCauseFrom stops transfers profile p room fault
+cause_from stops transfers rows profile p from numbers i n to room list o TooMany e exact at less is h rising only full = edges_over stops transfers rows profile p from numbers i n to room list o e exact at less is h rising only full.0 full.1
+cause_from stops transfers rows profile p from numbers i n to room list o Memory e exact at less is h rising only full = tt
 
 -- the lists so far and one that there is no room for
 pub cause_all : (stops : List Stop) (transfers : List TransferRow) (profile : Profile) (from : List (List Edge)) (p room : ℕ) (fault : EdgesFault) → EachAt (AreEdgesFrom stops transfers profile) from → length from ≡ p → edge_count from + room ≡ most_edges → IsCauseFrom stops transfers profile p room fault → IsCause stops transfers profile fault

@@ -1,3 +1,4 @@
+pub mod NearLemmas
 pub mod WalkLemmas
 pub mod RisingLemmas
 pub mod ReachLemmas

@@ -1,5 +1,5 @@
 -- Lists whose keys rise.
-use Rattle.std.proofs.Common.{arith, ◌≡◌, ℕ, ◌<◌, List, [], ◌++◌, ◌+◌, Option, Some, None}
+use Rattle.std.proofs.Common.{arith, ◌≡◌, ℕ, ◌<◌, ◌≤◌, List, [], ◌++◌, ◌+◌, Option, Some, None}
 use Rattle.std.specs.List.{All, AllPairs}
 use Rattle.std.specs.Option.{option_to_list}
 use Rattle.std.proofs.lemmas.List.{append-nil}
@@ -25,3 +25,6 @@ rising_more {X} key n P xs ys (Some y) at e only h =
       rises = all_pairs_push (λ (a : X) (b : X). key a < key b) xs y h.rises (λ k d l. let m = h.below k d l in omega arith);
       below = All-push (λ (x : X). key x < n + 1) xs y (All-weaker (λ (x : X). key x < n) (λ (x : X). key x < n + 1) (λ x l. omega arith) xs h.below) (omega arith);
     }
+
+pub rising_to : {X : Type 0} (key : X → ℕ) (n m : ℕ) (xs : List X) → n ≤ m → IsRisingTo key n xs → IsRisingTo key m xs
+rising_to key n m xs l h = record { rises = h.rises; below = All-weaker (λ x. key x < n) (λ x. key x < m) (λ x k. omega (arith, k, l)) xs h.below }

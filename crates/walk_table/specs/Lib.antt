@@ -1,3 +1,4 @@
+pub mod Near
 pub mod Walks
 pub mod Reaches
 pub mod Edges

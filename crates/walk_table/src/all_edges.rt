@@ -6,11 +6,13 @@ ghost use Rattle.otp_model.specs.Limits.{most_edges};
 ghost use Rattle.otp_model.specs.Ranges.{CanWalk};
 ghost use Rattle.walk_table.specs.Edges.{AreEdges, AreEdgesFrom, AreInReach, HasMoreEdges, edge_count};
 ghost use Rattle.walk_table.specs.Faults.{IsCause, IsCauseFrom, IsOverfull};
+ghost use Rattle.walk_table.specs.Near.{AreStandings};
 ghost use Rattle.walk_table.specs.Passed.{Counts, IsPassedOver};
 ghost use Rattle.walk_table.specs.Rows.{IsEdgeTo, IsGiven};
 
 use crate::copies::copied_stops;
 use crate::fault::EdgesFault;
+use crate::near::{Northward, candidates, northward_of};
 use crate::passed::passed_over;
 use crate::rows::{greatest_minimum, is_barred, is_named, rows_from};
 use crate::walks::{FARTHEST, seconds_over, square_within};
@@ -73,10 +75,14 @@ fn edges_from_all(
     ensures count { IfOk result (λ from. edge_count from ≤ most_edges) }
     ensures fault { IfErr result (IsCause stops.now transfers.now profile.now) }
 {
+    let northward = northward_of(alloc, stops)?;
     let mut from = List::new(alloc);
     let mut room = MOST_EDGES;
     for (number, stop) in stops.iter().enumerate() {
-        let list = edges_from(alloc, stops, transfers, profile, number as u32, stop, room)?;
+        let number = number as StopNo;
+        let list = edges_from(
+            alloc, &northward, stops, transfers, profile, number, stop, room,
+        )?;
         room -= list.len();
         from.push(list)?;
     }
@@ -86,6 +92,7 @@ fn edges_from_all(
 /// The edges from one stop, if there is room for so many.
 fn edges_from(
     alloc: Global,
+    northward: &Northward,
     stops: &[Stop],
     transfers: &[TransferRow],
     profile: &Profile,
@@ -94,6 +101,7 @@ fn edges_from(
     room: usize,
 ) -> Result<List<Edge>, EdgesFault>
     requires walks { CanWalk profile.now }
+    requires stands { AreStandings northward.now.south stops.now northward.now.standings.items }
     requires stops { length stops.now < 2 ^ 32 }
     requires stop { slice_get stops.now number ≡ Some stop.now }
     ensures edges { IfOk result (AreEdgesFrom stops.now transfers.now profile.now number) }
@@ -101,13 +109,12 @@ fn edges_from(
     ensures fault { IfErr result (IsCauseFrom stops.now transfers.now profile.now number room) }
 {
     let rows = rows_from(alloc, stops, transfers, number, stop)?;
+    let candidates = candidates(alloc, northward, stops, &rows, profile, number, stop)?;
     let mut list = Vec::new(alloc);
-    for (n, to) in stops.iter().enumerate() {
-        add_edge(
-            &mut list,
-            edge_to(profile, stops, &rows, number, stop, n as u32, to),
-            room,
-        )?;
+    for &to_number in &candidates {
+        let to = &stops[to_number as usize];
+        let edge = edge_to(profile, stops, &rows, number, stop, to_number, to);
+        add_edge(&mut list, edge, room)?;
     }
     Ok(List::from_vec(list))
 }
