@@ -1,15 +1,16 @@
 ghost use Rattle.std.specs.Prelude.{◌≡◌, ◌≢◌, ◌≤◌, ◌<◌, ◌^◌, ◌≤ℤ◌, [], pos, neg_ℤ, Some, IfOk, IfSome};
 ghost use Rattle.otp_base.specs.Answers.{Gives};
+ghost use Rattle.otp_model.specs.Clock.{clock_of};
 ghost use Rattle.otp_model.specs.Limits.{clock_end};
 ghost use Rattle.gtfs_records.specs.Faults.{told_fault};
-ghost use Rattle.gtfs_records.specs.Fields.{any_of, choice_of, clock_of, code_of, coordinate_of, count_of, count_or_none_of, filled_of, headway_of, time_of};
+ghost use Rattle.gtfs_records.specs.Fields.{any_of, choice_of, clock_or_none_of, code_of, coordinate_of, count_of, count_or_none_of, filled_of, headway_of};
 ghost use Rattle.gtfs_records.specs.Table.{accepted, cells, read_of, text_at};
 
 use crate::fault::{Fault, TableFault};
 use crate::fields;
 use crate::row_cells::RowCells;
 use otp_base::Text;
-use otp_model::FeedCause;
+use otp_model::{FeedCause, parse_clock};
 use std::alloc::Global;
 
 impl RowCells {
@@ -65,19 +66,19 @@ impl RowCells {
     }
 
     /// A time of day.
-    pub fn time(&self, column: usize) -> Result<u32, TableFault>
-        ensures time { Gives (λ x. x) told_fault result (read_of time_of self.now column) }
+    pub fn clock(&self, column: usize) -> Result<u32, TableFault>
+        ensures time { Gives (λ x. x) told_fault result (read_of clock_of self.now column) }
         ensures small { IfOk result (λ seconds. seconds < clock_end) }
     {
-        self.accepted(column, fields::time(self.text(column)?.as_bytes()))
+        self.accepted(column, parse_clock(self.text(column)?.as_bytes()))
     }
 
     /// A time of day, or none.
-    pub fn clock(&self, column: usize) -> Result<Option<u32>, TableFault>
-        ensures time { Gives (λ x. x) told_fault result (read_of clock_of self.now column) }
+    pub fn clock_or_none(&self, column: usize) -> Result<Option<u32>, TableFault>
+        ensures time { Gives (λ x. x) told_fault result (read_of clock_or_none_of self.now column) }
         ensures small { IfOk result (λ time. IfSome time (λ seconds. seconds < clock_end)) }
     {
-        self.accepted(column, fields::clock(self.text(column)?.as_bytes()))
+        self.accepted(column, fields::clock_or_none(self.text(column)?.as_bytes()))
     }
 
     /// A number of 1 to 9 digits.

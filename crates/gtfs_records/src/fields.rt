@@ -2,7 +2,9 @@ ghost use Rattle.std.specs.Prelude.{◌≡◌, ◌+◌, ◌*◌, ◌^◌, ◌<�
 ghost use Rattle.std.specs.Char.{is_ascii_digit};
 ghost use Rattle.std.specs.List.{list_all};
 ghost use Rattle.otp_model.specs.Limits.{clock_end};
-ghost use Rattle.gtfs_records.specs.Fields.{choice_of, clock_of, code_of, coordinate_of, count_of, count_or_none_of, degrees_of, digit_count_of, digits_from, fraction_of, headway_of, is_no_stop, limited_to, minutes_of, millionths_of, six_of, sixty_of, time_of, trim_start, trim_end, trim_spaces};
+ghost use Rattle.gtfs_records.specs.Fields.{choice_of, clock_or_none_of, code_of, coordinate_of, count_of, count_or_none_of, degrees_of, digit_count_of, digits_from, fraction_of, headway_of, is_no_stop, limited_to, millionths_of, six_of, trim_start, trim_end, trim_spaces};
+
+use otp_model::parse_clock;
 
 /// The bytes without spaces at their start.
 #[tactic(auto, unfolding(crate::specs::Fields::trim_start))]
@@ -134,57 +136,15 @@ pub fn choice(highest: u8, bytes: &[u8]) -> Option<u32>
     }
 }
 
-fn sixty(tens: u8, ones: u8) -> Option<u32>
-    ensures value { result ≡ sixty_of tens ones }
-    ensures small { IfSome result (λ n. n < 60) }
-{
-    if tens >= b'0' && tens <= b'5' && ones.is_ascii_digit() {
-        Some(10 * (tens - b'0') as u32 + (ones - b'0') as u32)
-    } else {
-        None
-    }
-}
-
-/// A colon, minutes, a colon and seconds, in seconds.
-#[tactic(auto, unfolding(crate::specs::Fields::minutes_of))]
-fn minutes(bytes: &[u8]) -> Option<u32>
-    ensures value { result ≡ minutes_of bytes.now }
-    ensures small { IfSome result (λ n. n < 3600) }
-{
-    match bytes {
-        [b':', a, b, b':', c, d] => {
-            let minutes = sixty(*a, *b)?;
-            let seconds = sixty(*c, *d)?;
-            Some(60 * minutes + seconds)
-        }
-        _ => None,
-    }
-}
-
-/// Hours of 1 to 3 digits, minutes and seconds, in seconds.
-#[tactic(auto, unfolding(crate::specs::Fields::time_of))]
-pub fn time(bytes: &[u8]) -> Option<u32>
-    ensures value { result ≡ time_of bytes.now }
-    ensures small { IfSome result (λ seconds. seconds < clock_end) }
-{
-    if bytes.len() < 7 || bytes.len() > 9 {
-        return None;
-    }
-    let (hours, rest) = bytes.split_at(bytes.len() - 6);
-    let hours = digits(0, hours)?;
-    let seconds = minutes(rest)?;
-    Some(3600 * hours + seconds)
-}
-
-/// A time, or none where it is empty.
-pub fn clock(bytes: &[u8]) -> Option<Option<u32>>
-    ensures value { result ≡ clock_of bytes.now }
+/// A time of day, or none where it is empty.
+pub fn clock_or_none(bytes: &[u8]) -> Option<Option<u32>>
+    ensures value { result ≡ clock_or_none_of bytes.now }
     ensures small { IfSome result (λ time. IfSome time (λ seconds. seconds < clock_end)) }
 {
     if bytes.is_empty() {
         return Some(None);
     }
-    Some(Some(time(bytes)?))
+    Some(Some(parse_clock(bytes)?))
 }
 
 /// The first six digits, with zeros where there are fewer.

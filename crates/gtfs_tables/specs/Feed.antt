@@ -6,9 +6,8 @@ use Rattle.otp_base.specs.declared.folder.FileEntry.{FileEntry}
 use Rattle.gtfs_records.specs.Records.{records_of}
 use Rattle.gtfs_records.specs.Table.{table_of}
 use Rattle.gtfs_records.specs.declared.fault.Fault.{Fault}
-use Rattle.otp_model.specs.FeedFaults.{fault_at, file_name}
+use Rattle.otp_model.specs.FeedFaults.{fault_at, fault_of_file, file_name}
 use Rattle.otp_model.specs.Limits.{most_file_bytes}
-use Rattle.otp_model.specs.declared.feed_fault.FeedCause.{FeedCause}
 use Rattle.otp_model.specs.declared.feed_fault.FeedCause.TheVariants as cause
 use Rattle.otp_model.specs.declared.feed_fault.FeedFile.{FeedFile}
 use Rattle.otp_model.specs.declared.feed_fault.FeedFile.TheVariants as feed
@@ -17,10 +16,6 @@ use Rattle.otp_model.specs.declared.tables.CalendarRow.{CalendarRow}
 use Rattle.otp_model.specs.declared.tables.DateRow.{DateRow}
 use Rattle.otp_model.specs.declared.tables.Tables.{Tables}
 use Rattle.gtfs_tables.specs.Rows.{Kind, agency_kind, calendar_kind, date_kind, frequency_kind, route_kind, stop_kind, stop_time_kind, transfer_kind, trip_kind}
-
--- a fault of a whole file
-abbrev pub file_fault : FeedCause → FeedFile → FeedFault
-file_fault cause file = fault_at cause file 0 []
 
 -- a fault of a table, with its file and the name of its column
 abbrev pub row_fault : {Row : Type 0} → Kind Row → Fault → FeedFault
@@ -33,7 +28,7 @@ with_names kind (Err f) = Err (row_fault kind f)
 -- the rows of a file
 abbrev pub rows_of : {Row : Type 0} → Kind Row → List ℕ → Result (List Row) FeedFault
 rows_of kind bytes =
-    if nat_lt most_file_bytes (length bytes) then Err (file_fault cause.TooLarge kind.file)
+    if nat_lt most_file_bytes (length bytes) then Err (fault_of_file cause.TooLarge kind.file)
     else with_names kind (table_of kind.columns kind.needed kind.row_at (records_of bytes))
 
 -- those of a file that may be missing
@@ -46,7 +41,7 @@ abbrev pub found_in : {Row : Type 0} → Kind Row → List ℕ → List FileEntr
 found_in kind path files = rows_if_there kind (file_of files (path ++ (codes "/" ++ file_name kind.file)))
 
 abbrev pub rows_there : {Row : Type 0} → FeedFile → Option (List Row) → Result (List Row) FeedFault
-rows_there file None = Err (file_fault cause.MissingFile file)
+rows_there file None = Err (fault_of_file cause.MissingFile file)
 rows_there file (Some rows) = Ok rows
 
 abbrev pub rows_or_none : {Row : Type 0} → Option (List Row) → List Row
@@ -63,7 +58,7 @@ optional_in kind path files = found_in kind path files >>= λ rows. Ok (rows_or_
 
 -- the rows of `calendar.txt` and `calendar_dates.txt`: where both are missing, `calendar.txt` is
 abbrev pub either_calendar : Option (List CalendarRow) → Option (List DateRow) → Result (List CalendarRow × List DateRow) FeedFault
-either_calendar None None = Err (file_fault cause.MissingFile feed.Calendar)
+either_calendar None None = Err (fault_of_file cause.MissingFile feed.Calendar)
 either_calendar None (Some dates) = Ok ([], dates)
 either_calendar (Some calendars) None = Ok (calendars, [])
 either_calendar (Some calendars) (Some dates) = Ok (calendars, dates)

@@ -1,11 +1,13 @@
 -- The kinds of rows of a feed's files, and the reader of each (GTFS Schedule reference, "Dataset Files" and
 -- the field definitions of each file).
 use Rattle.std.specs.Prelude.{ℕ, List, [], ◌∷◌, Result, Ok, codes}
-use Rattle.gtfs_records.specs.Fields.{any_of, choice_of, clock_of, code_of, coordinate_of, count_of, count_or_none_of, filled_of, headway_of, time_of}
+use Rattle.gtfs_records.specs.Fields.{any_of, choice_of, clock_or_none_of, code_of, coordinate_of, count_of, count_or_none_of, filled_of, headway_of}
 use Rattle.gtfs_records.specs.Table.{read_cell}
 use Rattle.gtfs_records.specs.declared.fault.Fault.{Fault}
 use Rattle.otp_base.specs.Results.{◌>>=◌}
+use Rattle.otp_model.specs.Clock.{clock_of}
 use Rattle.otp_model.specs.Day.{day_of}
+use Rattle.otp_model.specs.Limits.{most_latitude, most_longitude}
 use Rattle.otp_model.specs.declared.feed_fault.FeedFile.{FeedFile}
 use Rattle.otp_model.specs.declared.feed_fault.FeedFile.TheVariants as feed
 use Rattle.otp_model.specs.declared.tables.AgencyRow.{AgencyRow}
@@ -45,8 +47,8 @@ unfoldable pub stop_at : ℕ → (ℕ → List ℕ) → Result StopRow Fault
 stop_at row cells = do
   stop_id ← read_cell filled_of row cells 0
   stop_name ← read_cell any_of row cells 1
-  stop_lat ← read_cell (coordinate_of 90000000 (cells 4)) row cells 2
-  stop_lon ← read_cell (coordinate_of 180000000 (cells 4)) row cells 3
+  stop_lat ← read_cell (coordinate_of most_latitude (cells 4)) row cells 2
+  stop_lon ← read_cell (coordinate_of most_longitude (cells 4)) row cells 3
   location_type ← read_cell (choice_of 4) row cells 4
   parent_station ← read_cell any_of row cells 5
   Ok (record { stop_id = stop_id; stop_name = stop_name; stop_lat = stop_lat; stop_lon = stop_lon; location_type = location_type; parent_station = parent_station })
@@ -93,8 +95,8 @@ trip_kind = record {
 unfoldable pub stop_time_at : ℕ → (ℕ → List ℕ) → Result StopTimeRow Fault
 stop_time_at row cells = do
   trip_id ← read_cell filled_of row cells 0
-  arrival_time ← read_cell clock_of row cells 1
-  departure_time ← read_cell clock_of row cells 2
+  arrival_time ← read_cell clock_or_none_of row cells 1
+  departure_time ← read_cell clock_or_none_of row cells 2
   stop_id ← read_cell any_of row cells 3
   stop_sequence ← read_cell count_of row cells 4
   pickup_type ← read_cell (choice_of 3) row cells 5
@@ -173,8 +175,8 @@ transfer_kind = record {
 unfoldable pub frequency_at : ℕ → (ℕ → List ℕ) → Result FrequencyRow Fault
 frequency_at row cells = do
   trip_id ← read_cell filled_of row cells 0
-  start_time ← read_cell time_of row cells 1
-  end_time ← read_cell time_of row cells 2
+  start_time ← read_cell clock_of row cells 1
+  end_time ← read_cell clock_of row cells 2
   headway_secs ← read_cell headway_of row cells 3
   exact_times ← read_cell (choice_of 1) row cells 4
   Ok (record { trip_id = trip_id; start_time = start_time; end_time = end_time; headway_secs = headway_secs; exact_times = exact_times })

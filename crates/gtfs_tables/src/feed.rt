@@ -5,7 +5,7 @@ ghost use Rattle.otp_model.specs.FeedFaults.{told_of};
 ghost use Rattle.otp_model.specs.Rows.{AreRead, AreTables, IsCalendarRow, IsDateRow};
 ghost use Rattle.gtfs_tables.specs.Feed.{calendars_in, either_calendar, tables_of};
 
-use crate::feed_file::{file_fault, found_rows, optional_rows, required_rows};
+use crate::feed_file::{fault_of_file, found_rows, optional_rows, required_rows};
 use otp_base::{Folder, List};
 use otp_model::{
     AgencyRow, CalendarRow, DateRow, FeedCause, FeedFault, FeedFile, FrequencyRow, RouteRow,
@@ -91,7 +91,7 @@ fn either_calendar(
     ensures dates { IfOk result (λ rows. AreRead IsDateRow rows.1) }
 {
     match (calendars, dates) {
-        (None, None) => Err(file_fault(alloc, FeedCause::MissingFile, FeedFile::Calendar)),
+        (None, None) => Err(fault_of_file(alloc, FeedCause::MissingFile, FeedFile::Calendar)),
         (None, Some(dates)) => Ok((List::new(alloc), dates)),
         (Some(calendars), None) => Ok((calendars, List::new(alloc))),
         (Some(calendars), Some(dates)) => Ok((calendars, dates)),

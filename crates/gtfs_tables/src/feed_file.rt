@@ -1,10 +1,10 @@
 ghost use Rattle.std.specs.Prelude.{◌≡◌, ◌++◌, ◌≤◌, Some, IfOk, IfSome, codes, length, string_bytes};
 ghost use Rattle.otp_base.specs.Answers.{Gives};
 ghost use Rattle.otp_base.specs.Faults.{Rose};
-ghost use Rattle.otp_model.specs.FeedFaults.{IsFault, told_of};
+ghost use Rattle.otp_model.specs.FeedFaults.{IsFault, fault_of_file, told_of};
 ghost use Rattle.otp_model.specs.Limits.{most_file_bytes};
 ghost use Rattle.otp_model.specs.Rows.{AreRead};
-ghost use Rattle.gtfs_tables.specs.Feed.{file_fault, found_in, optional_in, required_in, row_fault, rows_of, rows_or_none, rows_there};
+ghost use Rattle.gtfs_tables.specs.Feed.{found_in, optional_in, required_in, row_fault, rows_of, rows_or_none, rows_there};
 
 use crate::table::{TableRow, read_table};
 use gtfs_records::{Fault, TableFault};
@@ -16,8 +16,8 @@ use std::alloc::Global;
 const MOST_FILE_BYTES: u64 = 536_870_912;
 
 /// A fault of a whole file.
-pub fn file_fault(alloc: Global, cause: FeedCause, file: FeedFile) -> FeedFault
-    ensures { IsFault result (file_fault cause file) }
+pub fn fault_of_file(alloc: Global, cause: FeedCause, file: FeedFile) -> FeedFault
+    ensures { IsFault result (fault_of_file cause file) }
 {
     FeedFault::at(alloc, cause, file, 0, "")
 }
@@ -74,7 +74,7 @@ pub fn found_rows<F: Folder, T: TableRow>(
     match read_file(alloc, folder, file.as_str(), MOST_FILE_BYTES) {
         Ok(bytes) => Ok(Some(rows_of::<T>(alloc, bytes.as_slice())?)),
         Err(FileFault::Missing) => Ok(None),
-        Err(FileFault::TooLarge) => Err(file_fault(alloc, FeedCause::TooLarge, T::file())),
+        Err(FileFault::TooLarge) => Err(fault_of_file(alloc, FeedCause::TooLarge, T::file())),
         Err(FileFault::ReadFault) => Err(FeedFault::Read),
         Err(FileFault::Memory) => Err(FeedFault::Memory),
     }
@@ -92,7 +92,7 @@ fn rows_there<T: Drop>(
 {
     match rows {
         Some(rows) => Ok(rows),
-        None => Err(file_fault(alloc, FeedCause::MissingFile, file)),
+        None => Err(fault_of_file(alloc, FeedCause::MissingFile, file)),
     }
 }
 

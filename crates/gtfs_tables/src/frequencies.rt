@@ -33,8 +33,8 @@ impl TableRow for FrequencyRow {
     #[tactic(auto, unfolding(crate::specs::Rows::frequency_at))]
     fn read(alloc: Global, cells: &RowCells) -> Result<FrequencyRow, TableFault> {
         let trip_id = cells.filled(alloc, 0)?;
-        let start_time = cells.time(1)?;
-        let end_time = cells.time(2)?;
+        let start_time = cells.clock(1)?;
+        let end_time = cells.clock(2)?;
         let headway_secs = cells.headway(3)?;
         let exact_times = cells.choice(1, 4)?;
         Ok(FrequencyRow {

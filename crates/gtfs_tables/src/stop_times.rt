@@ -35,8 +35,8 @@ impl TableRow for StopTimeRow {
     #[tactic(auto, unfolding(crate::specs::Rows::stop_time_at))]
     fn read(alloc: Global, cells: &RowCells) -> Result<StopTimeRow, TableFault> {
         let trip_id = cells.filled(alloc, 0)?;
-        let arrival_time = cells.clock(1)?;
-        let departure_time = cells.clock(2)?;
+        let arrival_time = cells.clock_or_none(1)?;
+        let departure_time = cells.clock_or_none(2)?;
         let stop_id = cells.any(alloc, 3)?;
         let stop_sequence = cells.count(4)?;
         let pickup_type = cells.choice(3, 5)?;
