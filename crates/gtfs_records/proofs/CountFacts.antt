@@ -7,10 +7,12 @@ use Rattle.csv.specs.declared.parser.Config.{Config}
 use Rattle.csv.specs.declared.parser.State.{State}
 use Rattle.csv.specs.declared.parser.State.TheVariants as st
 use Rattle.gtfs_records.proofs.RecordFacts.{next_record-leaves}
-use Rattle.gtfs_records.specs.Faults.{◌>>=◌, Gives, each}
+use Rattle.otp_base.specs.Answers.{Gives}
+use Rattle.otp_base.specs.Results.{◌>>=◌}
+use Rattle.gtfs_records.specs.Faults.{each, told_fault}
 use Rattle.gtfs_records.specs.Records.{Record, records_of}
 use Rattle.gtfs_records.specs.declared.fault.Fault.{Fault}
-use Rattle.gtfs_records.specs.declared.fault.TableError.{TableError}
+use Rattle.gtfs_records.specs.declared.fault.TableFault.{TableFault}
 
 -- each record takes at least a byte
 records_from-few : (cfg : Config) (n : ℕ) (s : State) (bytes : List ℕ) → ends_at_end s ≡ false → length (records_from cfg n s bytes) ≤ length bytes
@@ -54,8 +56,8 @@ each-length {B = B} f n (x ∷ xs) ys e = by (f n x) (each f (n + 1) xs) (each-l
     by (Ok y) (Ok zs) more e = let same : y ∷ zs ≡ ys = cc e in rw (← same) (ap suc (more zs refl))
 
 -- what gives the rows of the records under the header has at most as many
-pub table-few : {X : Type 0} (r : Result (List X) TableError) (f : ℕ → Record → Result X Fault) (n : ℕ) (records : List Record) (file : List ℕ)
-    → Gives (λ table. table) r (each f n (drop 1 records)) → length records ≤ length file → IfOk r (λ table. length table ≤ length file)
+pub table-few : {X : Type 0} (r : Result (List X) TableFault) (f : ℕ → Record → Result X Fault) (n : ℕ) (records : List Record) (file : List ℕ)
+    → Gives (λ table. table) told_fault r (each f n (drop 1 records)) → length records ≤ length file → IfOk r (λ table. length table ≤ length file)
 table-few (Ok table) f n [] file h few = omega (arith, each-length f n [] table h)
 table-few (Ok table) f n (x ∷ xs) file h few = omega (arith, each-length f n xs table h)
 table-few (Err e) f n records file h few = tt

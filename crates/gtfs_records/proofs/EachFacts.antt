@@ -1,10 +1,12 @@
 -- Reading item by item, as a loop does.
 use Rattle.std.proofs.Common.{◌≡◌, ℕ, ◌+◌, List, [], ◌∷◌, ◌++◌, Result, Ok, Err, refl, sym, ap, ◌∙◌, append_assoc}
 use Rattle.std.proofs.lemmas.List.{append-nil}
-use Rattle.gtfs_records.specs.Faults.{◌>>=◌, Fails, each}
+use Rattle.otp_base.specs.Answers.{GivesFault}
+use Rattle.otp_base.specs.Results.{◌>>=◌}
+use Rattle.gtfs_records.specs.Faults.{each, told_fault}
 use Rattle.gtfs_records.specs.declared.fault.Fault.{Fault}
-use Rattle.gtfs_records.specs.declared.fault.TableError.{TableError}
-use Rattle.gtfs_records.specs.declared.fault.TableError.TheVariants as errors
+use Rattle.gtfs_records.specs.declared.fault.TableFault.{TableFault}
+use Rattle.gtfs_records.specs.declared.fault.TableFault.TheVariants as faults
 
 -- what was read before, and what is still read
 abbrev pub with_front : {B : Type 0} → List B → Result (List B) Fault → Result (List B) Fault
@@ -25,11 +27,11 @@ goes_on f n x xs y front total read so_far =
     let one : with_front front (each f n (x ∷ xs)) ≡ with_front (front ++ y ∷ []) (each f (n + 1) xs) = rw read (regroup front y (each f (n + 1) xs)) in
     sym one ∙ so_far
 
-pub fails : {A B : Type 0} (e : TableError) (f : ℕ → A → Result B Fault) (n : ℕ) (x : A) (xs : List A) (front : List B) (total : Result (List B) Fault)
-    → Fails e (f n x) → with_front front (each f n (x ∷ xs)) ≡ total → Fails e total
+pub fails : {A B : Type 0} (e : TableFault) (f : ℕ → A → Result B Fault) (n : ℕ) (x : A) (xs : List A) (front : List B) (total : Result (List B) Fault)
+    → GivesFault (told_fault e) (f n x) → with_front front (each f n (x ∷ xs)) ≡ total → GivesFault (told_fault e) total
 unfolding each
-fails errors.Memory f n x xs front total read so_far = tt
-fails (errors.Fault fault) f n x xs front total read so_far =
+fails faults.Memory f n x xs front total read so_far = tt
+fails (faults.Fault fault) f n x xs front total read so_far =
     let one : with_front front (each f n (x ∷ xs)) ≡ Err fault = rw read refl in
     sym so_far ∙ one
 

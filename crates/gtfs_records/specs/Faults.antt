@@ -1,22 +1,14 @@
--- Reading in order, with the first fault that is met.
-use Rattle.std.specs.Prelude.{◌≡◌, ℕ, ◌+◌, List, [], ◌∷◌, Result, Ok, Err}
+-- The faults of a table, and reading item by item up to the first.
+use Rattle.std.specs.Prelude.{ℕ, ◌+◌, List, [], ◌∷◌, Option, Some, None, Result, Ok}
+use Rattle.otp_base.specs.Results.{◌>>=◌}
 use Rattle.gtfs_records.specs.declared.fault.Fault.{Fault}
-use Rattle.gtfs_records.specs.declared.fault.TableError.{TableError}
-use Rattle.gtfs_records.specs.declared.fault.TableError.TheVariants as errors
+use Rattle.gtfs_records.specs.declared.fault.TableFault.{TableFault}
+use Rattle.gtfs_records.specs.declared.fault.TableFault.TheVariants as faults
 
-infixl 10 ◌>>=◌
-abbrev pub ◌>>=◌ : {A B : Type 0} → Result A Fault → (A → Result B Fault) → Result B Fault
-(Ok x) >>= f = f x
-(Err e) >>= f = Err e
-
--- what a function returned is what reading gives, unless memory ran out
-abbrev pub Fails : {X : Type 0} → TableError → Result X Fault → Type 0
-Fails errors.Memory read = Unit {0}
-Fails (errors.Fault f) read = read ≡ Err f
-
-abbrev pub Gives : {X Y : Type 0} → (X → Y) → Result X TableError → Result Y Fault → Type 0
-Gives view (Ok x) read = read ≡ Ok (view x)
-Gives view (Err e) read = Fails e read
+-- the fault that is told of a table that wasn't read: none where memory ran out
+abbrev pub told_fault : TableFault → Option Fault
+told_fault faults.Memory = None
+told_fault (faults.Fault fault) = Some fault
 
 -- what each of the items gives, in turn, with their numbers from n on
 unfoldable pub each : {A B : Type 0} → (ℕ → A → Result B Fault) → ℕ → List A → Result (List B) Fault

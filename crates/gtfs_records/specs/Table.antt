@@ -4,10 +4,11 @@ use Rattle.std.specs.Str.{bytes_eq, is_utf8}
 use Rattle.csv.specs.Records.{field_at, fields_of}
 use Rattle.gtfs_records.specs.Records.{Record}
 use Rattle.gtfs_records.specs.Fields.{trim_spaces}
-use Rattle.gtfs_records.specs.Faults.{◌>>=◌, each}
+use Rattle.gtfs_records.specs.Faults.{each}
 use Rattle.gtfs_records.specs.declared.fault.Fault.{Fault}
-use Rattle.gtfs_records.specs.declared.fault.Cause.TheVariants as cause
-use Rattle.gtfs_records.specs.declared.line.Line.{Line}
+use Rattle.gtfs_records.specs.declared.row_cells.RowCells.{RowCells}
+use Rattle.otp_base.specs.Results.{◌>>=◌}
+use Rattle.otp_model.specs.declared.feed_fault.FeedCause.TheVariants as cause
 
 -- the first field of the header that is this name
 abbrev pub place_from : ℕ → List ℕ → Record → Option ℕ
@@ -32,8 +33,8 @@ cell_in fields (Some i) = trim_spaces (unwrap_or (field_at fields i) [])
 abbrev pub cell_at : List (Option ℕ) → Record → ℕ → List ℕ
 cell_at places fields column = cell_in fields (slice_index_or places column None)
 
-abbrev pub cells : Line → ℕ → List ℕ
-cells line column = cell_at line.places (fields_of line.record) column
+abbrev pub cells : RowCells → ℕ → List ℕ
+cells row column = cell_at row.places (fields_of row.record) column
 
 abbrev pub accepted : {X : Type 0} → ℕ → ℕ → Option X → Result X Fault
 accepted row column None = Err (record { cause = cause.BadField; row = row; column = column })
@@ -46,6 +47,10 @@ text_at row cells column = if is_utf8 (cells column) then Ok (cells column) else
 -- what a field reader says of the cell of a column
 abbrev pub read_cell : {X : Type 0} → (List ℕ → Option X) → ℕ → (ℕ → List ℕ) → ℕ → Result X Fault
 read_cell reader row cells column = text_at row cells column >>= λ text. accepted row column (reader text)
+
+-- what it says of the cell of a column of a record
+abbrev pub read_of : {X : Type 0} → (List ℕ → Option X) → RowCells → ℕ → Result X Fault
+read_of reader row column = read_cell reader row.row (cells row) column
 
 -- the first record is the header
 abbrev pub header_of : List Record → Record

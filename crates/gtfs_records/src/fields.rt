@@ -1,6 +1,10 @@
 ghost use Rattle.std.specs.Prelude.{◌≡◌, ◌+◌, ◌*◌, ◌^◌, ◌<◌, ◌≤◌, length, IfSome, IsTrue, pos, neg_ℤ, ◌≤ℤ◌};
+ghost use Rattle.std.specs.Char.{is_ascii_digit};
 ghost use Rattle.std.specs.List.{list_all};
-ghost use Rattle.gtfs_records.specs.Fields.{choice_of, clock_of, code_of, count_of, degrees_of, digit_count_of, digits_from, fraction_of, is_digit, limited_to, minutes_of, millionths_of, six_of, sixty_of, trim_start, trim_end, trim_spaces};
+ghost use Rattle.otp_model.specs.Limits.{clock_end};
+ghost use Rattle.gtfs_records.specs.Fields.{choice_of, clock_or_none_of, code_of, coordinate_of, count_of, count_or_none_of, degrees_of, digit_count_of, digits_from, fraction_of, headway_of, is_no_stop, limited_to, millionths_of, six_of, trim_start, trim_end, trim_spaces};
+
+use otp_model::parse_clock;
 
 /// The bytes without spaces at their start.
 #[tactic(auto, unfolding(crate::specs::Fields::trim_start))]
@@ -43,7 +47,7 @@ fn digits(front: u32, bytes: &[u8]) -> Option<u32>
     match bytes {
         [] => Some(front),
         [digit, rest @ ..] => {
-            if *digit >= b'0' && *digit <= b'9' {
+            if digit.is_ascii_digit() {
                 digits(10 * front + (*digit - b'0') as u32, rest)
             } else {
                 None
@@ -65,6 +69,34 @@ pub fn count(bytes: &[u8]) -> Option<u32>
     }
 }
 
+/// A number of 1 to 9 digits; empty is 0.
+pub fn count_or_none(bytes: &[u8]) -> Option<u32>
+    ensures value { result ≡ count_or_none_of bytes.now }
+    ensures small { IfSome result (λ n. n < 10 ^ 9) }
+{
+    if bytes.is_empty() {
+        Some(0)
+    } else {
+        count(bytes)
+    }
+}
+
+/// A number of seconds of 1 to 6 digits, at least 1.
+#[tactic(auto, unfolding(crate::specs::Fields::headway_of))]
+pub fn headway(bytes: &[u8]) -> Option<u32>
+    ensures value { result ≡ headway_of bytes.now }
+    ensures range { IfSome result (λ n. (1 ≤ n) × (n < 10 ^ 6)) }
+{
+    if bytes.is_empty() || bytes.len() > 6 {
+        return None;
+    }
+    let seconds = digits(0, bytes)?;
+    if seconds == 0 {
+        return None;
+    }
+    Some(seconds)
+}
+
 /// One digit from `lowest` to `highest`.
 #[tactic(auto, unfolding(crate::specs::Fields::code_of))]
 pub fn code(lowest: u8, highest: u8, bytes: &[u8]) -> Option<u32>
@@ -74,11 +106,7 @@ pub fn code(lowest: u8, highest: u8, bytes: &[u8]) -> Option<u32>
 {
     match bytes {
         [digit] => {
-            if *digit >= b'0'
-                && *digit <= b'9'
-                && *digit - b'0' >= lowest
-                && *digit - b'0' <= highest
-            {
+            if digit.is_ascii_digit() && *digit - b'0' >= lowest && *digit - b'0' <= highest {
                 Some((*digit - b'0') as u32)
             } else {
                 None
@@ -108,49 +136,15 @@ pub fn choice(highest: u8, bytes: &[u8]) -> Option<u32>
     }
 }
 
-fn sixty(tens: u8, ones: u8) -> Option<u32>
-    ensures value { result ≡ sixty_of tens ones }
-    ensures small { IfSome result (λ n. n < 60) }
-{
-    if tens >= b'0' && tens <= b'5' && ones >= b'0' && ones <= b'9' {
-        Some(10 * (tens - b'0') as u32 + (ones - b'0') as u32)
-    } else {
-        None
-    }
-}
-
-/// A colon, minutes, a colon and seconds, in seconds.
-#[tactic(auto, unfolding(crate::specs::Fields::minutes_of))]
-fn minutes(bytes: &[u8]) -> Option<u32>
-    ensures value { result ≡ minutes_of bytes.now }
-    ensures small { IfSome result (λ n. n < 3600) }
-{
-    match bytes {
-        [b':', a, b, b':', c, d] => {
-            let minutes = sixty(*a, *b)?;
-            let seconds = sixty(*c, *d)?;
-            Some(60 * minutes + seconds)
-        }
-        _ => None,
-    }
-}
-
-/// Hours, minutes and seconds, in seconds; empty is none.
-#[tactic(auto, unfolding(crate::specs::Fields::clock_of))]
-pub fn clock(bytes: &[u8]) -> Option<Option<u32>>
-    ensures value { result ≡ clock_of bytes.now }
-    ensures small { IfSome result (λ time. IfSome time (λ seconds. seconds < 3600000)) }
+/// A time of day, or none where it is empty.
+pub fn clock_or_none(bytes: &[u8]) -> Option<Option<u32>>
+    ensures value { result ≡ clock_or_none_of bytes.now }
+    ensures small { IfSome result (λ time. IfSome time (λ seconds. seconds < clock_end)) }
 {
     if bytes.is_empty() {
         return Some(None);
     }
-    if bytes.len() < 7 || bytes.len() > 9 {
-        return None;
-    }
-    let (hours, rest) = bytes.split_at(bytes.len() - 6);
-    let hours = digits(0, hours)?;
-    let seconds = minutes(rest)?;
-    Some(Some(3600 * hours + seconds))
+    Some(Some(parse_clock(bytes)?))
 }
 
 /// The first six digits, with zeros where there are fewer.
@@ -164,9 +158,9 @@ fn six(digits: &[u8]) -> [u8; 6]
 }
 
 fn are_digits(bytes: &[u8]) -> bool
-    ensures { result ≡ list_all is_digit bytes.now }
+    ensures { result ≡ list_all is_ascii_digit bytes.now }
 {
-    bytes.iter().all(|b| *b >= b'0' && *b <= b'9')
+    bytes.iter().all(|byte| byte.is_ascii_digit())
 }
 
 /// A point and digits, or nothing, in millionths.
@@ -197,7 +191,7 @@ fn digit_count(bytes: &[u8]) -> usize
     let mut count = 0;
     let mut left = bytes;
     while let [digit, rest @ ..] = left {
-        if *digit < b'0' || *digit > b'9' {
+        if !digit.is_ascii_digit() {
             return count;
         }
         count += 1;
@@ -248,4 +242,25 @@ pub fn degrees(limit: u32, bytes: &[u8]) -> Option<i64>
         [b'+', rest @ ..] => limited(limit, false, millionths(rest)?),
         _ => limited(limit, false, millionths(bytes)?),
     }
+}
+
+/// Whether a location type is 1 to 4.
+fn is_no_stop(location: &[u8]) -> bool
+    ensures { result ≡ is_no_stop (choice_of 4 location.now) }
+{
+    match choice(4, location) {
+        Some(kind) => kind > 0,
+        None => false,
+    }
+}
+
+/// A coordinate up to `limit` millionths either way, which only a row of location type 1 to 4 may leave empty.
+pub fn coordinate(limit: u32, location: &[u8], bytes: &[u8]) -> Option<i64>
+    ensures value { result ≡ coordinate_of limit location.now bytes.now }
+    ensures small { IfSome result (λ z. (neg_ℤ (pos limit) ≤ℤ z) × (z ≤ℤ pos limit)) }
+{
+    if !bytes.is_empty() {
+        return degrees(limit, bytes);
+    }
+    if is_no_stop(location) { Some(0) } else { None }
 }

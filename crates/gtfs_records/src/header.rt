@@ -1,11 +1,13 @@
 ghost use Rattle.std.specs.Prelude.{◌≡◌};
 ghost use Rattle.csv.specs.Records.{fields_of};
-ghost use Rattle.gtfs_records.specs.Faults.{Gives};
+ghost use Rattle.otp_base.specs.Answers.{Gives};
+ghost use Rattle.gtfs_records.specs.Faults.{told_fault};
 ghost use Rattle.gtfs_records.specs.Table.{column_at, place_from};
 
-use crate::fault::{Cause, Fault, TableError};
+use crate::fault::{Fault, TableFault};
 use crate::fields::trimmed;
 use csv::ByteRecord;
+use otp_model::FeedCause;
 
 /// Where the column of this name stands: the first of two.
 fn place_of(header: &ByteRecord, name: &str) -> Option<usize>
@@ -30,15 +32,15 @@ pub fn column_of(
     needed: usize,
     column: usize,
     name: &str,
-) -> Result<Option<usize>, TableError>
-    ensures { Gives (λ x. x) result (column_at needed (fields_of header.now) column name.now) }
+) -> Result<Option<usize>, TableFault>
+    ensures { Gives (λ place. place) told_fault result (column_at needed (fields_of header.now) column name.now) }
 {
     match place_of(header, name) {
         Some(place) => Ok(Some(place)),
         None => {
             if column < needed {
-                Err(TableError::Fault(Fault {
-                    cause: Cause::MissingColumn,
+                Err(TableFault::Fault(Fault {
+                    cause: FeedCause::MissingColumn,
                     row: 0,
                     column,
                 }))

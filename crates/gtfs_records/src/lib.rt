@@ -3,7 +3,7 @@
 //! reader of each kind of field ("Field Types").
 //!
 //! `Records` gives the records of a file's bytes one after the other, `column_of` finds a column in the
-//! header, and a `Line`, a record with the places of its columns, reads its cells. Every fault names its
+//! header, and `RowCells`, a record with the places of its columns, reads its cells. Every fault names its
 //! cause, its row and its column.
 #![tactic(auto)]
 
@@ -11,11 +11,11 @@ mod cells;
 mod fault;
 mod fields;
 mod header;
-mod line;
 mod records;
+mod row_cells;
 
-pub use fault::{Cause, Fault, TableError};
+pub use fault::{Fault, TableFault};
 pub use fields::degrees;
 pub use header::column_of;
-pub use line::Line;
 pub use records::Records;
+pub use row_cells::RowCells;

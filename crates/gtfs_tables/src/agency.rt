@@ -1,20 +1,20 @@
-ghost use Rattle.gtfs_tables.specs.Rows.{agency_at, agency_names};
+ghost use Rattle.gtfs_tables.specs.Rows.{agency_kind};
 ghost use Rattle.otp_model.specs.Rows.{IsAgencyRow};
 
 use crate::table::TableRow;
-use gtfs_records::{Line, TableError};
-use otp_model::AgencyRow;
+use gtfs_records::{RowCells, TableFault};
+use otp_model::{AgencyRow, FeedFile};
 use std::alloc::Global;
 
 /// The records of `agency.txt`.
 impl TableRow for AgencyRow {
-    ghost names = { agency_names };
-
-    ghost needed = { 1 };
-
-    ghost row_at = { agency_at };
+    ghost kind = { agency_kind };
 
     ghost is_read = { IsAgencyRow };
+
+    fn file() -> FeedFile {
+        FeedFile::Agency
+    }
 
     fn columns() -> &'static [&'static str] {
         &["agency_timezone"]
@@ -25,8 +25,8 @@ impl TableRow for AgencyRow {
     }
 
     #[tactic(auto, unfolding(crate::specs::Rows::agency_at))]
-    fn read(alloc: Global, line: &Line) -> Result<AgencyRow, TableError> {
-        let agency_timezone = line.filled(alloc, 0)?;
+    fn read(alloc: Global, cells: &RowCells) -> Result<AgencyRow, TableFault> {
+        let agency_timezone = cells.filled(alloc, 0)?;
         Ok(AgencyRow { agency_timezone })
     }
 }

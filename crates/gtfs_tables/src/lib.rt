@@ -1,6 +1,6 @@
 //! The files of a timetable feed, read from a folder (GTFS Schedule reference).
 //!
-//! `read_tables` reads the eight files of a feed into lists of records, or gives the first fault.
+//! `read_tables` reads the nine files of a feed into lists of records, or gives the first fault.
 #![tactic(auto)]
 
 mod agency;
@@ -8,7 +8,8 @@ mod calendar;
 mod calendar_dates;
 mod day_cell;
 mod feed;
-mod file;
+mod feed_file;
+mod frequencies;
 mod routes;
 mod stop_times;
 mod stops;
@@ -18,8 +19,8 @@ mod trips;
 
 pub use feed::read_tables;
 pub use otp_model::{
-    AgencyRow, CalendarRow, DateRow, FeedFault, RouteRow, StopRow, StopTimeRow, Tables,
-    TransferLine, TripRow,
+    AgencyRow, CalendarRow, DateRow, FeedFault, FrequencyRow, RouteRow, StopRow, StopTimeRow,
+    Tables, TransferLine, TripRow,
 };
 
 #[cfg(test)]

@@ -1,20 +1,20 @@
-ghost use Rattle.gtfs_tables.specs.Rows.{route_at, route_names};
+ghost use Rattle.gtfs_tables.specs.Rows.{route_kind};
 ghost use Rattle.otp_model.specs.Rows.{IsRouteRow};
 
 use crate::table::TableRow;
-use gtfs_records::{Line, TableError};
-use otp_model::RouteRow;
+use gtfs_records::{RowCells, TableFault};
+use otp_model::{FeedFile, RouteRow};
 use std::alloc::Global;
 
 /// The records of `routes.txt`.
 impl TableRow for RouteRow {
-    ghost names = { route_names };
-
-    ghost needed = { 1 };
-
-    ghost row_at = { route_at };
+    ghost kind = { route_kind };
 
     ghost is_read = { IsRouteRow };
+
+    fn file() -> FeedFile {
+        FeedFile::Routes
+    }
 
     fn columns() -> &'static [&'static str] {
         &["route_id"]
@@ -25,8 +25,8 @@ impl TableRow for RouteRow {
     }
 
     #[tactic(auto, unfolding(crate::specs::Rows::route_at))]
-    fn read(alloc: Global, line: &Line) -> Result<RouteRow, TableError> {
-        let route_id = line.filled(alloc, 0)?;
+    fn read(alloc: Global, cells: &RowCells) -> Result<RouteRow, TableFault> {
+        let route_id = cells.filled(alloc, 0)?;
         Ok(RouteRow { route_id })
     }
 }

@@ -1,37 +1,40 @@
-ghost use Rattle.std.specs.Prelude.{◌≡◌, ◌≤◌, ℕ, IfOk, List, drop, length, map, Result};
+ghost use Rattle.std.specs.Prelude.{◌≡◌, ◌≤◌, IfOk, drop, length, map};
 ghost use Rattle.std.specs.List.{All};
 ghost use Rattle.csv.specs.Records.{fields_of};
-ghost use Rattle.gtfs_records.specs.Faults.{Gives, each};
+ghost use Rattle.gtfs_records.specs.Faults.{each, told_fault};
 ghost use Rattle.gtfs_records.specs.Records.{records_of};
-ghost use Rattle.gtfs_records.specs.Table.{cells, column_at, header_of, row_of, table_of};
-ghost use Rattle.gtfs_records.specs.declared.fault.Fault.{Fault};
+ghost use Rattle.gtfs_records.specs.Table.{cells as cells_of, column_at, header_of, row_of, table_of};
+ghost use Rattle.gtfs_tables.specs.Rows.{Kind};
+ghost use Rattle.otp_base.specs.Answers.{Gives};
 
 use csv::ByteRecord;
-use gtfs_records::{Line, Records, TableError, column_of};
+use gtfs_records::{Records, RowCells, TableFault, column_of};
 use otp_base::{List, Memory};
+use otp_model::FeedFile;
 use std::alloc::Global;
 
-/// A kind of row: its columns, how a row is read from its cells, and what holds of each that was read.
+/// A kind of row of a feed's files.
 pub trait TableRow: Drop {
-    ghost names: { List (List ℕ) };
+    ghost kind: { Kind Self };
 
-    ghost needed: { ℕ };
-
-    ghost row_at: { ℕ → (ℕ → List ℕ) → Result Self Fault };
-
+    /// What holds of each row that was read.
     ghost is_read: { Self → Type 0 };
+
+    /// The file that it stands in.
+    fn file() -> FeedFile
+        ensures { result ≡ kind.file };
 
     /// The names of the columns, those that must be in the header first.
     fn columns() -> &'static [&'static str]
-        ensures { map (λ s. s.now) result.now ≡ names };
+        ensures { map (λ s. s.now) result.now ≡ kind.columns };
 
     /// How many columns must be in the header.
     fn needed_columns() -> usize
-        ensures { result ≡ needed };
+        ensures { result ≡ kind.needed };
 
     /// Reads a row.
-    fn read(alloc: Global, line: &Line) -> Result<Self, TableError>
-        ensures row { Gives (λ x. x) result (row_at line.now.row (cells line.now)) }
+    fn read(alloc: Global, cells: &RowCells) -> Result<Self, TableFault>
+        ensures row { Gives (λ x. x) told_fault result (kind.row_at cells.now.row (cells_of cells.now)) }
         ensures is_read { IfOk result is_read };
 }
 
@@ -39,8 +42,9 @@ pub trait TableRow: Drop {
 fn places_of<T: TableRow>(
     alloc: Global,
     header: &ByteRecord,
-) -> Result<List<Option<usize>>, TableError>
-    ensures { Gives (λ places. places) result (each (column_at T.needed (fields_of header.now)) 0 T.names) }
+) -> Result<List<Option<usize>>, TableFault>
+    ensures { Gives (λ places. places) told_fault result
+        (each (column_at T.kind.needed (fields_of header.now)) 0 T.kind.columns) }
 {
     let names = T::columns();
     let needed = T::needed_columns();
@@ -54,7 +58,8 @@ fn places_of<T: TableRow>(
 
 /// Takes the header off, which is empty where there is no record.
 fn take_header(alloc: Global, records: &mut Records) -> Result<ByteRecord, Memory>
-    ensures { IfOk result (λ header. (fields_of header ≡ header_of records.old) × (records.new ≡ drop 1 records.old)) }
+    ensures { IfOk result
+        (λ header. (fields_of header ≡ header_of records.old) × (records.new ≡ drop 1 records.old)) }
 {
     let mut header = ByteRecord::new(alloc);
     if !records.next(&mut header)? {
@@ -68,31 +73,33 @@ fn rows_under<T: TableRow>(
     alloc: Global,
     mut records: Records,
     places: List<Option<usize>>,
-) -> Result<List<T>, TableError>
-    ensures rows { Gives (λ table. table) result (each (row_of T.row_at places) 1 records.entry) }
+) -> Result<List<T>, TableFault>
+    ensures rows { Gives (λ table. table) told_fault result
+        (each (row_of T.kind.row_at places) 1 records.entry) }
     ensures are_read { IfOk result (All T.is_read) }
 {
-    let mut line = Line {
+    let mut cells = RowCells {
         row: 0,
         record: ByteRecord::new(alloc),
         places,
     };
     let mut table = List::new(alloc);
     for row in 1..u64::MAX {
-        if !records.next(&mut line.record)? {
+        if !records.next(&mut cells.record)? {
             return Ok(table);
         }
-        line.row = row;
-        table.push(T::read(alloc, &line)?)?;
+        cells.row = row;
+        table.push(T::read(alloc, &cells)?)?;
     }
-    Err(TableError::Memory)
+    Err(TableFault::Memory)
 }
 
 /// The rows of a table, or its first fault: the columns that must be there in their order, then row by
 /// row the cells that are no text or that their readers refuse. There are no more rows than bytes.
 #[tactic(auto, unfolding(gtfs_records::specs::Table::table_of))]
-pub fn read_table<T: TableRow>(alloc: Global, file: &[u8]) -> Result<List<T>, TableError>
-    ensures rows { Gives (λ table. table) result (table_of T.names T.needed T.row_at (records_of file.now)) }
+pub fn read_table<T: TableRow>(alloc: Global, file: &[u8]) -> Result<List<T>, TableFault>
+    ensures rows { Gives (λ table. table) told_fault result
+        (table_of T.kind.columns T.kind.needed T.kind.row_at (records_of file.now)) }
     ensures are_read { IfOk result (All T.is_read) }
     ensures few { IfOk result (λ table. length table ≤ length file.now) }
 {

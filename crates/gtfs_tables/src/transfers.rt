@@ -1,20 +1,20 @@
-ghost use Rattle.gtfs_tables.specs.Rows.{transfer_at, transfer_names};
+ghost use Rattle.gtfs_tables.specs.Rows.{transfer_kind};
 ghost use Rattle.otp_model.specs.Rows.{IsTransferLine};
 
 use crate::table::TableRow;
-use gtfs_records::{Line, TableError};
-use otp_model::TransferLine;
+use gtfs_records::{RowCells, TableFault};
+use otp_model::{FeedFile, TransferLine};
 use std::alloc::Global;
 
 /// The records of `transfers.txt`.
 impl TableRow for TransferLine {
-    ghost names = { transfer_names };
-
-    ghost needed = { 0 };
-
-    ghost row_at = { transfer_at };
+    ghost kind = { transfer_kind };
 
     ghost is_read = { IsTransferLine };
+
+    fn file() -> FeedFile {
+        FeedFile::Transfers
+    }
 
     fn columns() -> &'static [&'static str] {
         &[
@@ -34,15 +34,15 @@ impl TableRow for TransferLine {
     }
 
     #[tactic(auto, unfolding(crate::specs::Rows::transfer_at))]
-    fn read(alloc: Global, line: &Line) -> Result<TransferLine, TableError> {
-        let from_stop_id = line.any(alloc, 0)?;
-        let to_stop_id = line.any(alloc, 1)?;
-        let transfer_type = line.choice(5, 2)?;
-        let min_transfer_time = line.count_or_none(3)?;
-        let from_route_id = line.any(alloc, 4)?;
-        let to_route_id = line.any(alloc, 5)?;
-        let from_trip_id = line.any(alloc, 6)?;
-        let to_trip_id = line.any(alloc, 7)?;
+    fn read(alloc: Global, cells: &RowCells) -> Result<TransferLine, TableFault> {
+        let from_stop_id = cells.any(alloc, 0)?;
+        let to_stop_id = cells.any(alloc, 1)?;
+        let transfer_type = cells.choice(5, 2)?;
+        let min_transfer_time = cells.count_or_none(3)?;
+        let from_route_id = cells.any(alloc, 4)?;
+        let to_route_id = cells.any(alloc, 5)?;
+        let from_trip_id = cells.any(alloc, 6)?;
+        let to_trip_id = cells.any(alloc, 7)?;
         Ok(TransferLine {
             from_stop_id,
             to_stop_id,

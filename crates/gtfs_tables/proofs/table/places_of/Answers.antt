@@ -24,7 +24,7 @@ loop-column-preserved g c =
 
 pub returns : goal.returns
 returns g c =
-    let f = column_at g.T.TableRow.needed (fields_of c.args.header.now) in
+    let f = column_at g.T.TableRow.kind.needed (fields_of c.args.header.now) in
     let none = drop_all c.loop-column.column (map (λ (s : Bor (List ℕ)). s.now) c.columns-names.result.now) (rw length-map c.loop-column-test.false) in
     let so_far = rw (← c.columns-names.ensures, none) at c.loop-column.invariant in
     rw (← c.columns-names.ensures) (is_done f c.loop-column.column c.loop-column.places _ so_far)

@@ -7,4 +7,4 @@ use Rattle.gtfs_tables.proofs.table.places_of.Given as goal
 
 abbrev pub invariant-loop-column : goal.invariant-loop-column
 invariant-loop-column g l =
-    with_front l.places (each (column_at g.T.TableRow.needed (fields_of l.header)) l.column (drop l.column g.T.TableRow.names)) ≡ each (column_at g.T.TableRow.needed (fields_of l.header)) 0 g.T.TableRow.names
+    with_front l.places (each (column_at g.T.TableRow.kind.needed (fields_of l.header)) l.column (drop l.column g.T.TableRow.kind.columns)) ≡ each (column_at g.T.TableRow.kind.needed (fields_of l.header)) 0 g.T.TableRow.kind.columns

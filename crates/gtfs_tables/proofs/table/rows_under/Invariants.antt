@@ -7,7 +7,7 @@ use Rattle.gtfs_tables.proofs.table.rows_under.Given as goal
 
 abbrev pub invariant-loop-row : goal.invariant-loop-row
 invariant-loop-row g l = record {
-  same : l.line.places ≡ l.fn.places;
+  same : l.cells.places ≡ l.fn.places;
   are_read : All g.T.TableRow.is_read l.table;
-  so_far : with_front l.table (each (row_of g.T.TableRow.row_at l.fn.places) l.row l.records) ≡ each (row_of g.T.TableRow.row_at l.fn.places) 1 l.fn.records;
+  so_far : with_front l.table (each (row_of g.T.TableRow.kind.row_at l.fn.places) l.row l.records) ≡ each (row_of g.T.TableRow.kind.row_at l.fn.places) 1 l.fn.records;
 }

@@ -8,13 +8,13 @@ use otp_base::List;
 
 /// A record of a table, with its number and where each column of its kind of row stands in it.
 #[derive(Drop)]
-pub struct Line {
+pub struct RowCells {
     pub row: u64,
     pub record: ByteRecord,
     pub places: List<Option<usize>>,
 }
 
-impl Line {
+impl RowCells {
     /// The field of a column without spaces at its ends; empty where the column or the field isn't there.
     pub fn cell(&self, column: usize) -> &[u8]
         ensures { result.now ≡ cells self.now column }

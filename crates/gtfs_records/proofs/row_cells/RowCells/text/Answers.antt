@@ -4,7 +4,7 @@ use Rattle.std.proofs.lemmas.Str.{IsUtf8-from_is_utf8, is_utf8-from_IsUtf8}
 use Rattle.std.specs.Prelude.{IsUtf8}
 use Rattle.std.specs.Str.{is_utf8}
 use Rattle.gtfs_records.specs.Table.{cells}
-use Rattle.gtfs_records.proofs.line.Line.text.Goals as goal
+use Rattle.gtfs_records.proofs.row_cells.RowCells.text.Goals as goal
 
 not_text : (bs : List ℕ) → ¬ (IsUtf8 bs) → is_utf8 bs ≡ false
 not_text bs refused = elim (cases_Bool (is_utf8 bs)) [ inl good ↦ absurd (refused (IsUtf8-from_is_utf8 bs good)) | inr bad ↦ bad ]
