@@ -94,7 +94,7 @@ module _ (stops : List StopRow) (ids kept : List (List ℕ)) where
           (others n (n + 1) row rows e (λ k d l. apart zero (suc k) d (omega arith) (omega (arith, l)))) more
 
 -- where ids differ, each stands at the number of its row
-place_at : {R : Type 0} (id_of : R → List ℕ) (rows : List R) → AreApart id_of rows → (k : ℕ) (d : R) → k < length rows → place_of (map id_of rows) (id_of (get_or rows k d)) ≡ k
+pub place_at : {R : Type 0} (id_of : R → List ℕ) (rows : List R) → AreApart id_of rows → (k : ℕ) (d : R) → k < length rows → place_of (map id_of rows) (id_of (get_or rows k d)) ≡ k
 unfolding place_of
 place_at id_of [] apart k d l = absurd (omega (arith, l))
 place_at id_of (row ∷ rows) apart zero d l = rw (bytes_eq-refl (id_of row)) refl

@@ -1,59 +1,54 @@
 -- The first fault of the whole feed, file by file, where ids are looked up in indexes.
-use Rattle.std.proofs.Common.{◌≡◌, ℕ, List, [], ◌∷◌, ◌++◌, map, get_or, suc, zero, true, Option, None, Result, refl, sym, ap, subst, ◌∙◌, arith}
+use Rattle.std.proofs.Common.{◌≡◌, ℕ, ◌<◌, ◌^◌, length, length-append, List, [], ◌∷◌, ◌++◌, map, get_or, suc, zero, true, Option, Result, refl, sym, ap, subst, ◌∙◌, arith}
 use Rattle.std.specs.List.{All}
 use Rattle.std.specs.Str.{bytes_eq}
-use Rattle.name_index.proofs.SightFacts.{has-first_sights}
+use Rattle.std.proofs.lemmas.List.{length-map}
+use Rattle.name_index.proofs.SightFacts.{first_sights-shorter, has-first_sights}
 use Rattle.name_index.proofs.TestFacts.{bytes_eq-refl, or-last}
 use Rattle.otp_model.specs.Services.{service_ids, services_of}
 use Rattle.otp_model.specs.Sights.{first_sights, has_name}
 use Rattle.otp_model.specs.declared.feed_fault.FeedFault.{FeedFault}
 use Rattle.otp_model.specs.declared.tables.CalendarRow.{CalendarRow}
-use Rattle.otp_model.specs.declared.tables.DateRow.{DateRow}
 use Rattle.otp_model.specs.declared.tables.Tables.{Tables}
 use Rattle.gtfs_links.specs.declared.indexes.Indexes.{Indexes}
-use Rattle.gtfs_links.specs.declared.wrong.Column.TheVariants as column
+use Rattle.otp_model.specs.Rows.{AreTables}
+use Rattle.otp_model.specs.declared.feed_fault.FeedFile.TheVariants as file
+use Rattle.gtfs_links.specs.declared.check.wrong.Column.TheVariants as column
 use Rattle.gtfs_links.specs.Faults.{Finds, first_of, first_wrong}
-use Rattle.gtfs_links.specs.Index.{AreIndexes, HasService, id_of_calendar, id_of_route}
+use Rattle.gtfs_links.specs.Index.{AreFew, AreIndexes, HasId, id_of_calendar, id_of_route, service_of_date}
 use Rattle.gtfs_links.specs.Linked.{fault_of, route_ids, stop_ids, trip_ids}
-use Rattle.gtfs_links.specs.Rules.{agency_fault, date_rule, id_rule, stop_rule, time_rule, transfer_rule, trip_rule}
+use Rattle.gtfs_links.specs.Rules.{agency_fault, date_rule, frequency_rule, id_of_stop, id_of_trip, id_rule, stop_rule, time_rule, transfer_rule, trip_rule}
 
 -- an index has the ids that it is made of
 pub same_known : (names ids : List (List ℕ)) → names ≡ first_sights ids → has_name names ≡ has_name ids
 same_known names ids e = ap (λ (ns : List (List ℕ)). has_name ns) e ∙ (λ i name. has-first_sights ids name i)
 
 module _ (zone : List ℕ) (tables : Tables) (ix : Indexes) (h : AreIndexes tables ix) where
-  abbrev pub found_stops : Option FeedFault
-  found_stops = first_wrong 2 (stop_rule (has_name ix.stops)) [] tables.stops
+  -- what is found where ids are looked up in the indexes
+  abbrev pub found_in : Option FeedFault
+  found_in =
+      first_of (agency_fault zone tables.agencies)
+      (first_of (first_wrong file.Stops (stop_rule (has_name ix.stops)) [] tables.stops)
+      (first_of (first_wrong file.Routes (id_rule id_of_route column.RouteId) [] tables.routes)
+      (first_of (first_wrong file.Trips (trip_rule (has_name ix.routes) (has_name ix.services)) [] tables.trips)
+      (first_of (first_wrong file.StopTimes (time_rule (has_name ix.trips) (has_name ix.stops)) [] tables.stop_times)
+      (first_of (first_wrong file.Calendar (id_rule id_of_calendar column.ServiceId) [] tables.calendars)
+      (first_of (first_wrong file.CalendarDates date_rule [] tables.dates)
+      (first_of (first_wrong file.Transfers (transfer_rule (has_name ix.stops)) [] tables.transfers)
+      (first_wrong file.Frequencies (frequency_rule (has_name ix.trips)) [] tables.frequencies))))))))
 
-  abbrev pub found_routes : Option FeedFault
-  found_routes = first_wrong 3 (id_rule id_of_route column.RouteId) [] tables.routes
-
-  abbrev pub found_trips : Option FeedFault
-  found_trips = first_wrong 4 (trip_rule (has_name ix.routes) (has_name ix.services)) [] tables.trips
-
-  abbrev pub found_times : Option FeedFault
-  found_times = first_wrong 5 (time_rule (has_name ix.trips) (has_name ix.stops)) [] tables.stop_times
-
-  abbrev pub found_calendars : Option FeedFault
-  found_calendars = first_wrong 6 (id_rule id_of_calendar column.ServiceId) [] tables.calendars
-
-  abbrev pub found_dates : Option FeedFault
-  found_dates = first_wrong 7 date_rule [] tables.dates
-
-  abbrev pub found_transfers : Option FeedFault
-  found_transfers = first_wrong 8 (transfer_rule (has_name ix.stops)) [] tables.transfers
-
-  -- looking ids up in the indexes finds the same
-  pub same_fault : fault_of zone tables
-      ≡ first_of (agency_fault zone tables.agencies) (first_of found_stops (first_of found_routes (first_of found_trips (first_of found_times (first_of found_calendars (first_of found_dates found_transfers))))))
+  -- is what the feed has
+  same_fault : fault_of zone tables ≡ found_in
   same_fault = λ i.
       first_of (agency_fault zone tables.agencies)
-      (first_of (first_wrong 2 (stop_rule (stops i)) [] tables.stops)
-      (first_of found_routes
-      (first_of (first_wrong 4 (trip_rule (routes i) (services i)) [] tables.trips)
-      (first_of (first_wrong 5 (time_rule (trips i) (stops i)) [] tables.stop_times)
-      (first_of found_calendars
-      (first_of found_dates (first_wrong 8 (transfer_rule (stops i)) [] tables.transfers)))))))
+      (first_of (first_wrong file.Stops (stop_rule (stops i)) [] tables.stops)
+      (first_of (first_wrong file.Routes (id_rule id_of_route column.RouteId) [] tables.routes)
+      (first_of (first_wrong file.Trips (trip_rule (routes i) (services i)) [] tables.trips)
+      (first_of (first_wrong file.StopTimes (time_rule (trips i) (stops i)) [] tables.stop_times)
+      (first_of (first_wrong file.Calendar (id_rule id_of_calendar column.ServiceId) [] tables.calendars)
+      (first_of (first_wrong file.CalendarDates date_rule [] tables.dates)
+      (first_of (first_wrong file.Transfers (transfer_rule (stops i)) [] tables.transfers)
+      (first_wrong file.Frequencies (frequency_rule (trips i)) [] tables.frequencies))))))))
     where
       stops : has_name (stop_ids tables) ≡ has_name ix.stops
       stops = sym (same_known ix.stops (stop_ids tables) h.stops)
@@ -67,14 +62,8 @@ module _ (zone : List ℕ) (tables : Tables) (ix : Indexes) (h : AreIndexes tabl
       services : has_name (service_ids tables) ≡ has_name ix.services
       services = sym (same_known ix.services (service_ids tables) h.services)
 
-  -- a check that passed over the files before finds what the feed has
-  module _ {X : Type 0} (result : Result X FeedFault) where
-    pub finds_whole : Finds result (first_of (agency_fault zone tables.agencies) (first_of found_stops (first_of found_routes (first_of found_trips (first_of found_times (first_of found_calendars (first_of found_dates found_transfers)))))))
-        → Finds result (fault_of zone tables)
-    finds_whole f = subst (λ (found : Option FeedFault). Finds result found) (sym same_fault) f
-
-pub finds_after : {X : Type 0} (result : Result X FeedFault) (found later : Option FeedFault) → found ≡ None → Finds result later → Finds result (first_of found later)
-finds_after result found later n h = rw n h
+  pub finds_whole : {X : Type 0} (result : Result X FeedFault) → Finds result found_in → Finds result (fault_of zone tables)
+  finds_whole result f = subst (λ (found : Option FeedFault). Finds result found) (sym same_fault) f
 
 has-append_right : (names more : List (List ℕ)) (name : List ℕ) → has_name more name ≡ true → has_name (names ++ more) name ≡ true
 has-append_right [] more name h = h
@@ -87,8 +76,27 @@ has_own id_of (row ∷ rows) zero d l = rw (bytes_eq-refl (id_of row)) refl
 has_own id_of (row ∷ rows) (suc k) d l = or-last (bytes_eq (id_of (get_or rows k d)) (id_of row)) (has_name (map id_of rows) (id_of (get_or rows k d))) (has_own id_of rows k d (omega (arith, l)))
 
 -- the services of `calendar_dates.txt` are among the services
-pub has_services : (tables : Tables) → All (HasService (services_of tables)) tables.dates
+pub has_services : (tables : Tables) → All (HasId (services_of tables) service_of_date) tables.dates
 has_services tables k d l =
     has-first_sights (service_ids tables) (get_or tables.dates k d).service_id
-    ∙ has-append_right (map (λ (row : CalendarRow). row.service_id) tables.calendars) (map (λ (row : DateRow). row.service_id) tables.dates) (get_or tables.dates k d).service_id
-    (has_own (λ (row : DateRow). row.service_id) tables.dates k d l)
+    ∙ has-append_right (map (λ (row : CalendarRow). row.service_id) tables.calendars) (map service_of_date tables.dates) (get_or tables.dates k d).service_id
+    (has_own service_of_date tables.dates k d l)
+
+-- the ids of a feed are few
+few_names : (names ids : List (List ℕ)) → names ≡ first_sights ids → length ids < 2 ^ 32 → length names < 2 ^ 32
+few_names names ids e few = rw e (omega (arith, few, first_sights-shorter ids))
+
+pub few_ids : (tables : Tables) (ix : Indexes) → AreTables tables → AreIndexes tables ix → AreFew ix
+few_ids tables ix read h = record {
+  stops = few_names ix.stops (stop_ids tables) h.stops (omega (arith, read.stops.few, length-map tables.stops id_of_stop));
+  routes = few_names ix.routes (route_ids tables) h.routes (omega (arith, read.routes.few, length-map tables.routes id_of_route));
+  trips = few_names ix.trips (trip_ids tables) h.trips (omega (arith, read.trips.few, length-map tables.trips id_of_trip));
+  services = few_names ix.services (service_ids tables) h.services (omega (
+    arith,
+    read.calendars.few,
+    read.dates.few,
+    length-append (map (λ (row : CalendarRow). row.service_id) tables.calendars) (map service_of_date tables.dates),
+    length-map tables.calendars (λ (row : CalendarRow). row.service_id),
+    length-map tables.dates service_of_date,
+  ));
+}

@@ -4,13 +4,14 @@ use Rattle.std.specs.List.{All, AllPairs}
 use Rattle.std.specs.Str.{bytes_eq}
 use Rattle.std.proofs.lemmas.Bool.{false_from_ne_true}
 use Rattle.std.proofs.lemmas.List.{append-nil}
-use Rattle.std.proofs.lemmas.List.Elements.{All-head, All-tail}
+use Rattle.std.proofs.lemmas.List.Elements.{All-cons, All-head, All-nil, All-tail}
 use Rattle.std.proofs.lemmas.List.Quantifiers.{all_pairs_push}
 use Rattle.name_index.proofs.SightFacts.{first_sights-without}
 use Rattle.name_index.proofs.TestFacts.{bytes_eq-refl, or-left, or-right, same_bytes}
 use Rattle.otp_model.specs.Sights.{first_sights, has_name}
 use Rattle.otp_model.specs.declared.feed_fault.FeedFault.{FeedFault}
-use Rattle.gtfs_links.specs.declared.wrong.Wrong.{Wrong}
+use Rattle.otp_model.specs.declared.feed_fault.FeedFile.{FeedFile}
+use Rattle.gtfs_links.specs.declared.check.wrong.Wrong.{Wrong}
 use Rattle.gtfs_links.specs.Faults.{fault_or, first_of, first_wrong}
 use Rattle.gtfs_links.specs.Rules.{is_repeated}
 
@@ -23,16 +24,16 @@ pub none_later : (a b : Option FeedFault) → first_of a b ≡ None → b ≡ No
 none_later None b h = h
 none_later (Some fault) b h = cc h
 
-pub none_row : (file row : ℕ) (wrong : Option Wrong) (later : Option FeedFault) → fault_or file row wrong later ≡ None → wrong ≡ None
+pub none_row : (file : FeedFile) (row : ℕ) (wrong : Option Wrong) (later : Option FeedFault) → fault_or file row wrong later ≡ None → wrong ≡ None
 none_row file row None later h = refl
 none_row file row (Some wrong) later h = cc h
 
-pub none_rest : (file row : ℕ) (wrong : Option Wrong) (later : Option FeedFault) → fault_or file row wrong later ≡ None → later ≡ None
+pub none_rest : (file : FeedFile) (row : ℕ) (wrong : Option Wrong) (later : Option FeedFault) → fault_or file row wrong later ≡ None → later ≡ None
 none_rest file row None later h = h
 none_rest file row (Some wrong) later h = cc h
 
 -- what a rule says of each row and the rows before it holds of all pairs
-pub rows_related : {R : Type 0} (Rel : R → R → Type 0) (file : ℕ) (rule : List R → R → Option Wrong)
+pub rows_related : {R : Type 0} (Rel : R → R → Type 0) (file : FeedFile) (rule : List R → R → Option Wrong)
     (says : (before : List R) (row : R) → rule before row ≡ None → (k : ℕ) (d : R) → k < length before → Rel (get_or before k d) row)
     (before rows : List R) → AllPairs Rel before → first_wrong file rule before rows ≡ None → AllPairs Rel (before ++ rows)
 unfolding first_wrong
@@ -44,6 +45,16 @@ rows_related {R} Rel file rule says before (row ∷ rows) related h =
     let all : AllPairs Rel ((before ++ row ∷ []) ++ rows) = rows_related Rel file rule says (before ++ row ∷ []) rows more rest in
     rw append_assoc at all
 
+-- what the rule says of each row, where nothing is wrong
+pub each_fine : {R : Type 0} (file : FeedFile) (rule : List R → R → Option Wrong) (Q : R → Type 0) (says : (before : List R) (row : R) → rule before row ≡ None → Q row)
+    (before rows : List R) → first_wrong file rule before rows ≡ None → All Q rows
+unfolding first_wrong
+each_fine file rule Q says before [] h = All-nil Q
+each_fine file rule Q says before (row ∷ rows) h =
+    let fine = none_row file (length before + 1) (rule before row) (first_wrong file rule (before ++ row ∷ []) rows) h in
+    let rest = none_rest file (length before + 1) (rule before row) (first_wrong file rule (before ++ row ∷ []) rows) h in
+    All-cons Q row rows (says before row fine) (each_fine file rule Q says (before ++ row ∷ []) rows rest)
+
 module _ {R : Type 0} (id_of : R → List ℕ) where
   abbrev pub AreApart : List R → Type 0
   AreApart rows = AllPairs (λ (a b : R). id_of a ≢ id_of b) rows
@@ -54,11 +65,11 @@ module _ {R : Type 0} (id_of : R → List ℕ) where
   apart_from (row ∷ rows) id h zero d l e = let same : bytes_eq id (id_of row) ≡ true = rw e (bytes_eq-refl id) in cc (same, or-left (bytes_eq id (id_of row)) (has_name (map id_of rows) id) h)
   apart_from (row ∷ rows) id h (suc k) d l e = apart_from rows id (or-right (bytes_eq id (id_of row)) (has_name (map id_of rows) id) h) k d (omega (arith, l)) e
 
-  pub rows_apart : (file : ℕ) (rule : List R → R → Option Wrong) (clean : (before : List R) (row : R) → rule before row ≡ None → is_repeated id_of before row ≡ false)
+  pub rows_apart : (file : FeedFile) (rule : List R → R → Option Wrong) (clean : (before : List R) (row : R) → rule before row ≡ None → is_repeated id_of before row ≡ false)
       (before rows : List R) → AreApart before → first_wrong file rule before rows ≡ None → AreApart (before ++ rows)
   rows_apart file rule clean = rows_related (λ (a b : R). id_of a ≢ id_of b) file rule (λ before row fine. apart_from before (id_of row) (clean before row fine))
 
-  none_has : (rows : List R) (id : List ℕ) → All (λ (row : R). id ≢ id_of row) rows → has_name (map id_of rows) id ≡ false
+  pub none_has : (rows : List R) (id : List ℕ) → All (λ (row : R). id ≢ id_of row) rows → has_name (map id_of rows) id ≡ false
   none_has [] id h = refl
   none_has (row ∷ rows) id h =
       let differs : bytes_eq id (id_of row) ≡ false = false_from_ne_true (bytes_eq id (id_of row)) (λ t. All-head (λ (r : R). id ≢ id_of r) row rows h (same_bytes id (id_of row) t)) in

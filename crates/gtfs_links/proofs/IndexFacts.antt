@@ -1,15 +1,19 @@
 -- An index of a file's ids, row by row: an id is placed before its row's number exactly where an earlier row
 -- has it.
-use Rattle.std.proofs.Common.{◌≡◌, ℕ, ◌+◌, ◌<◌, ◌≤◌, List, [], ◌∷◌, ◌++◌, length, map, Bool, true, false, cond, ◌||◌, get_or, take, drop, refl, sym, ap, ◌∙◌, arith, append_assoc}
-use Rattle.std.specs.Prelude.{nat_lt}
+use Rattle.std.proofs.Common.{◌≡◌, ℕ, suc, zero, Option, None, Some, add-one, subst, ◌+◌, ◌<◌, ◌≤◌, List, [], ◌∷◌, ◌++◌, length, map, Bool, true, false, cond, ◌||◌, get_or, take, drop, refl, sym, ap, ◌∙◌, arith, append_assoc}
+use Rattle.std.specs.Prelude.{nat_lt, slice_get}
 use Rattle.std.proofs.lemmas.Bool.{lt-ltb, le-ltb}
 use Rattle.std.proofs.lemmas.List.{append-nil, drop_all, drop_more, length-map, length-take-le, map_more}
-use Rattle.std.specs.List.{filter}
+use Rattle.std.proofs.lemmas.Option.{get_or_from_slice_get}
 use Rattle.std.specs.Str.{bytes_eq}
 use Rattle.name_index.proofs.SightFacts.{noted_all, place-below, starts_noting}
 use Rattle.name_index.proofs.TestFacts.{bytes_eq-refl}
 use Rattle.otp_model.specs.Sights.{first_sights, has_name, noted, place_of}
+use Rattle.gtfs_links.specs.declared.check.wrong.Wrong.{Wrong}
+use Rattle.gtfs_links.specs.Faults.{AreFineBefore}
 use Rattle.gtfs_links.specs.Index.{IsIndexOf}
+use Rattle.gtfs_links.specs.Rules.{is_repeated}
+use Rattle.gtfs_links.proofs.FaultFacts.{row_at}
 
 pub place-append_has : (names more : List (List ℕ)) (name : List ℕ) → has_name names name ≡ true → place_of (names ++ more) name ≡ place_of names name
 unfolding place_of
@@ -94,6 +98,21 @@ module _ {R : Type 0} (id_of : R → List ℕ) (names : List (List ℕ)) (rows :
       let more : map id_of (take (i + 1) rows) ≡ map id_of (take i rows) ++ id_of row ∷ [] = rw (← e) at (map_more id_of rows i row l) in
       rw more (noted_more names (map id_of (take i rows)) (map id_of (drop (i + 1) rows)) (id_of row) (at_row i row l e h) new)
 
+  module _ (rule : List R → R → Option Wrong) (clean : (before : List R) (row : R) → rule before row ≡ None → is_repeated id_of before row ≡ false) (index : IsIndexOf (map id_of rows) names) where
+    -- where nothing is wrong with the rows before, the names were noted from those
+    noted_before : (i : ℕ) → i ≤ length rows → AreFineBefore rule rows i → IsNotedAt i
+    noted_before zero l fine = noted_at_start (map id_of rows) names index
+    noted_before (suc i) l fine =
+        let less : i < length rows = omega (arith, l) in
+        let row = row_at rows i less in
+        let so_far : IsNotedAt i = noted_before i (omega (arith, l)) (λ k other before at. fine k other (omega (arith, before)) at) in
+        let new : is_repeated id_of (take i rows) row.0 ≡ false = clean (take i rows) row.0 (fine i row.0 (omega arith) row.1) in
+        subst IsNotedAt (add-one i) (row_noted i row.0 less (sym (get_or_from_slice_get rows i row.0 row.0 row.1)) so_far new)
+
+    -- then the place of a row's id is before it exactly where the id repeats
+    pub id_repeats : (i : ℕ) (row : R) → i < length rows → slice_get rows i ≡ Some row → AreFineBefore rule rows i → nat_lt (place_of names (id_of row)) i ≡ is_repeated id_of (take i rows) row
+    id_repeats i row l at fine = row_repeats i row l (sym (get_or_from_slice_get rows i row row at)) (noted_before i (omega (arith, l)) fine)
+
 module _ {R : Type 0} (id_of : R → List ℕ) (rows : List R) where
   -- noting a file's ids row by row
   pub noted_row : (i : ℕ) (row : R) (before now total : List (List ℕ)) → i < length rows → row ≡ get_or rows i row → now ≡ noted before (id_of row)
@@ -102,27 +121,6 @@ module _ {R : Type 0} (id_of : R → List ℕ) (rows : List R) where
   noted_row i row before now total l e n h =
       let cut : drop i rows ≡ row ∷ drop (i + 1) rows = rw (← e) at (drop_more rows i row l) in
       rw n (rw cut at h)
-
-  -- noting those that pass a test
-  pub noted_kept : (p : R → Bool) (i : ℕ) (row : R) (before now total : List (List ℕ)) → i < length rows → row ≡ get_or rows i row → p row ≡ true → now ≡ noted before (id_of row)
-      → noted_all before (map id_of (filter p (drop i rows))) ≡ total → noted_all now (map id_of (filter p (drop (i + 1) rows))) ≡ total
-  unfolding noted_all
-  noted_kept p i row before now total l e passes n h =
-      let cut : drop i rows ≡ row ∷ drop (i + 1) rows = rw (← e) at (drop_more rows i row l) in
-      rw n (rw (cut, passes) at h)
-
-  pub noted_left_out : (p : R → Bool) (i : ℕ) (row : R) (before total : List (List ℕ)) → i < length rows → row ≡ get_or rows i row → p row ≡ false
-      → noted_all before (map id_of (filter p (drop i rows))) ≡ total → noted_all before (map id_of (filter p (drop (i + 1) rows))) ≡ total
-  noted_left_out p i row before total l e fails h =
-      let cut : drop i rows ≡ row ∷ drop (i + 1) rows = rw (← e) at (drop_more rows i row l) in
-      rw (cut, fails) at h
-
-  pub noted_kept_all : (p : R → Bool) (i : ℕ) (now : List (List ℕ)) → length rows ≤ i → noted_all now (map id_of (filter p (drop i rows))) ≡ noted_all [] (map id_of (filter p rows))
-      → now ≡ first_sights (map id_of (filter p rows))
-  unfolding noted_all
-  noted_kept_all p i now l h =
-      let done : now ≡ noted_all [] (map id_of (filter p rows)) = rw (drop_all i rows l) at h in
-      done ∙ starts_noting (map id_of (filter p rows))
 
 noted_all-append : (seen ids more : List (List ℕ)) → noted_all seen (ids ++ more) ≡ noted_all (noted_all seen ids) more
 unfolding noted_all

@@ -1,21 +1,24 @@
 -- Two rows have the same key of numbers where they have the same key of texts, if the index has one of them.
-use Rattle.std.proofs.Common.{◌≡◌, ℕ, ◌+◌, List, [], ◌∷◌, length, map, Bool, true, false, cond, ◌||◌, ◌<◌, ◌++◌, get_or, take, pos, refl, sym, ap, ◌∙◌, arith, eq-eqb}
-use Rattle.std.specs.Prelude.{nat_eq}
+use Rattle.std.proofs.Common.{◌≡◌, ℕ, ◌+◌, List, [], ◌∷◌, length, map, Bool, true, false, cond, ◌||◌, ◌<◌, ◌≤◌, ◌++◌, get_or, take, pos, ℤ, refl, sym, ap, ◌∙◌, arith, eq-eqb}
+use Rattle.std.specs.Prelude.{nat_eq, nat_lt}
 use Rattle.std.specs.List.{All, list_any}
 use Rattle.std.specs.Ordering.{int_eq}
 use Rattle.std.specs.Str.{bytes_eq}
-use Rattle.std.proofs.lemmas.Bool.{eqb-true, eqb-false, false_from_ne_true}
-use Rattle.std.proofs.lemmas.List.Elements.{All-head, All-push, All-tail}
-use Rattle.name_index.proofs.TestFacts.{bytes_eq-refl, bytes_eq-other_way, same_bytes}
+use Rattle.std.proofs.lemmas.Bool.{eqb-true, eqb-false, false_from_ne_true, le-ltb, lt-ltb}
+use Rattle.name_index.proofs.TestFacts.{bytes_eq-refl, bytes_eq-other_way, or-left, or-right, same_bytes}
 use Rattle.otp_model.specs.Sights.{has_name, place_of}
 use Rattle.std.proofs.lemmas.Bool.Decides.{Decides-int_eq}
-use Rattle.std.proofs.lemmas.List.{map_more, take_more}
+use Rattle.std.proofs.lemmas.List.{get_or-map, map_more}
+use Rattle.std.proofs.lemmas.List.Elements.{All-head, All-tail}
+use Rattle.name_index.proofs.SightFacts.{place-below}
 use Rattle.otp_model.specs.declared.tables.DateRow.{DateRow}
+use Rattle.otp_model.specs.declared.tables.FrequencyRow.{FrequencyRow}
 use Rattle.otp_model.specs.declared.tables.StopTimeRow.{StopTimeRow}
-use Rattle.gtfs_links.specs.Index.{HasService}
-use Rattle.gtfs_links.specs.Keys.{is_key, with_key}
-use Rattle.gtfs_links.specs.Rules.{is_same_call, is_same_date}
-use Rattle.gtfs_links.specs.declared.keys.Key.{Key}
+use Rattle.gtfs_links.specs.Index.{HasId, service_of_date, trip_of_frequency, trip_of_time}
+use Rattle.gtfs_links.specs.Keys.{is_key, is_same_key, key_in, numbers_in, with_key}
+use Rattle.gtfs_links.specs.Numbers.{date_of, sequence_of, start_of}
+use Rattle.gtfs_links.specs.Rules.{is_same_call, is_same_date, is_same_start}
+use Rattle.gtfs_links.specs.declared.check.keys.Key.{Key}
 
 eq-more : (p q : ℕ) → nat_eq (p + 1) (q + 1) ≡ nat_eq p q
 eq-more p q = by (nat_eq p q) refl
@@ -43,29 +46,38 @@ same_place (o ∷ names) a b h = by (bytes_eq a o) refl (bytes_eq b o) refl h (s
     by false e true f t go = rw (same_bytes b o f) (more-zero (place_of names a) ∙ sym e)
     by false e false f t go = eq-more (place_of names a) (place_of names b) ∙ go t
 
-module _ {R : Type 0} (key : R → Key) (same : R → R → Bool) (IsKnown : R → Type 0) (agree : (row other : R) → IsKnown other → is_key (key row) (key other) ≡ same row other) where
-  pub any_same : (row : R) (before : List R) → All IsKnown before → list_any (is_key (key row)) (map key before) ≡ list_any (same row) before
-  any_same row [] known = refl
-  any_same row (other ∷ before) known = ors _ _ _ _ (agree row other (All-head IsKnown other before known)) (any_same row before (All-tail IsKnown other before known))
+place-missing : (names : List (List ℕ)) (name : List ℕ) → has_name names name ≡ false → length names ≤ place_of names name
+unfolding place_of
+place-missing [] name h = omega arith
+place-missing (other ∷ names) name h = rw (or-left (bytes_eq name other) (has_name names name) h) (omega (arith, place-missing names name (or-right (bytes_eq name other) (has_name names name) h)))
+
+-- a name is there where its place is before the end
+pub has_place : (names : List (List ℕ)) (name : List ℕ) → nat_lt (place_of names name) (length names) ≡ has_name names name
+has_place names name = by (has_name names name) refl
+  where
+    by : (b : Bool) → has_name names name ≡ b → nat_lt (place_of names name) (length names) ≡ b
+    by true e = lt-ltb (place_of names name) (length names) (place-below names name e)
+    by false e = le-ltb (place_of names name) (length names) (omega (arith, place-missing names name e))
+
+-- Rows have one key of numbers where they are the same by their texts, if the names have the later one's id.
+module _ {R : Type 0} (names : List (List ℕ)) (id_of : R → List ℕ) (part_of : R → ℤ) where
+  pub any_same : (same : R → R → Bool) (agree : (row other : R) → HasId names id_of other → is_same_key names id_of part_of row other ≡ same row other)
+      → (row : R) (before : List R) → All (HasId names id_of) before → list_any (is_same_key names id_of part_of row) before ≡ list_any (same row) before
+  any_same same agree row [] known = refl
+  any_same same agree row (other ∷ before) known =
+      ors _ _ _ _ (agree row other (All-head (HasId names id_of) other before known)) (any_same same agree row before (All-tail (HasId names id_of) other before known))
     where
       ors : (a b c d : Bool) → a ≡ c → b ≡ d → (a || b) ≡ (c || d)
       ors a b c d e f = rw (e, f) refl
 
-  module _ (rows : List R) (i : ℕ) (row : R) (l : i < length rows) (e : row ≡ get_or rows i row) (keys : List Key) where
-    -- a key was noted where an earlier row has it
-    pub key_row : keys ≡ map key (take i rows) → All IsKnown (take i rows) → list_any (is_key (key row)) keys ≡ list_any (same row) (take i rows)
-    key_row h known = rw h (any_same row (take i rows) known)
-
-    pub key_more : (now : List Key) → keys ≡ map key (take i rows) → list_any (is_key (key row)) keys ≡ false → now ≡ with_key keys (key row) → now ≡ map key (take (i + 1) rows)
-    key_more now h new n =
-        let last : now ≡ keys ++ key row ∷ [] = rw new at n in
-        let more : map key (take (i + 1) rows) ≡ map key (take i rows) ++ key row ∷ [] = rw (← e) at (map_more key rows i row l) in
-        last ∙ rw h (sym more)
-
-    pub known_more : All IsKnown (take i rows) → IsKnown row → All IsKnown (take (i + 1) rows)
-    known_more known k =
-        let more : take (i + 1) rows ≡ take i rows ++ row ∷ [] = rw (← e) at (take_more rows i row l) in
-        rw more (All-push IsKnown (take i rows) row known k)
+  -- noting a key that wasn't there
+  pub key_more : (rows : List R) (i : ℕ) (row : R) (keys now : List Key) → i < length rows → row ≡ get_or rows i row → keys ≡ map (key_in names id_of part_of) (take i rows)
+      → list_any (is_key (key_in names id_of part_of row)) keys ≡ false → now ≡ with_key keys (key_in names id_of part_of row) → now ≡ map (key_in names id_of part_of) (take (i + 1) rows)
+  key_more rows i row keys now l e h new n =
+      let key : R → Key = key_in names id_of part_of in
+      let last : now ≡ keys ++ key row ∷ [] = rw new at n in
+      let more : map key (take (i + 1) rows) ≡ map key (take i rows) ++ key row ∷ [] = rw (← e) at (map_more key rows i row l) in
+      last ∙ rw h (sym more)
 
 signed_eq : (a b : ℕ) → int_eq (pos a) (pos b) ≡ nat_eq a b
 signed_eq a b = by (nat_eq a b) refl
@@ -77,19 +89,18 @@ signed_eq a b = by (nat_eq a b) refl
         apart : pos a ≡ pos b → a ≡ b
         apart h = cc h
 
--- a call by the number of its trip
-abbrev pub time_key : List (List ℕ) → StopTimeRow → Key
-time_key trips row = record { owner = place_of trips row.trip_id; part = pos row.stop_sequence }
-
-abbrev pub HasTrip : List (List ℕ) → StopTimeRow → Type 0
-HasTrip trips row = has_name trips row.trip_id ≡ true
-
-pub times_agree : (trips : List (List ℕ)) (row other : StopTimeRow) → HasTrip trips other → is_key (time_key trips row) (time_key trips other) ≡ is_same_call row other
+pub times_agree : (trips : List (List ℕ)) (row other : StopTimeRow) → HasId trips trip_of_time other → is_same_key trips trip_of_time sequence_of row other ≡ is_same_call row other
 times_agree trips row other h = rw (same_place trips row.trip_id other.trip_id h, signed_eq row.stop_sequence other.stop_sequence) refl
 
--- a date by the number of its service
-abbrev pub date_key : List (List ℕ) → DateRow → Key
-date_key services row = record { owner = place_of services row.service_id; part = row.date }
-
-pub dates_agree : (services : List (List ℕ)) (row other : DateRow) → HasService services other → is_key (date_key services row) (date_key services other) ≡ is_same_date row other
+pub dates_agree : (services : List (List ℕ)) (row other : DateRow) → HasId services service_of_date other → is_same_key services service_of_date date_of row other ≡ is_same_date row other
 dates_agree services row other h = rw (same_place services row.service_id other.service_id h) refl
+
+pub starts_agree : (trips : List (List ℕ)) (row other : FrequencyRow) → HasId trips trip_of_frequency other → is_same_key trips trip_of_frequency start_of row other ≡ is_same_start row other
+starts_agree trips row other h = rw (same_place trips row.trip_id other.trip_id h, signed_eq row.start_time other.start_time) refl
+
+-- the number of what a row names
+pub number_is : {R : Type 0} (names : List (List ℕ)) (id_of : R → List ℕ) (numbers : List ℕ) (rows : List R) (i : ℕ) (row : R) → numbers ≡ numbers_in names id_of rows → i < length rows → row ≡ get_or rows i row
+    → get_or numbers i 0 ≡ place_of names (id_of row)
+number_is names id_of numbers rows i row h l e =
+    let at : get_or (numbers_in names id_of rows) i 0 ≡ place_of names (id_of (get_or rows i row)) = get_or-map (λ r. place_of names (id_of r)) rows i row 0 l in
+    ap (λ (ns : List ℕ). get_or ns i 0) h ∙ (at ∙ ap (λ r. place_of names (id_of r)) (sym e))

@@ -1,11 +1,14 @@
 pub mod CalledFacts
-pub mod CallFacts
 pub mod CheckFacts
 pub mod DistinctFacts
 pub mod FaultFacts
 pub mod FeedFacts
 pub mod IndexFacts
+pub mod JudgeFacts
+pub mod KeptFacts
 pub mod KeyFacts
+pub mod RepeatFacts
+pub mod LinkingFacts
 pub mod ResolvedFacts
 pub mod RuleFacts
 pub mod TimeFacts

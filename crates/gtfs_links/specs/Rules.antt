@@ -12,10 +12,12 @@ use Rattle.otp_model.specs.declared.tables.TripRow.{TripRow}
 use Rattle.otp_model.specs.declared.tables.StopTimeRow.{StopTimeRow}
 use Rattle.otp_model.specs.declared.tables.DateRow.{DateRow}
 use Rattle.otp_model.specs.declared.tables.TransferLine.{TransferLine}
-use Rattle.gtfs_links.specs.declared.wrong.Column.{Column}
-use Rattle.gtfs_links.specs.declared.wrong.Column.TheVariants as column
-use Rattle.gtfs_links.specs.declared.wrong.Wrong.{Wrong}
-use Rattle.gtfs_links.specs.Faults.{duplicate, fault_at, first_wrong, other_zone, unknown}
+use Rattle.otp_model.specs.declared.tables.FrequencyRow.{FrequencyRow}
+use Rattle.otp_model.specs.declared.feed_fault.FeedFile.TheVariants as file
+use Rattle.gtfs_links.specs.declared.check.wrong.Column.{Column}
+use Rattle.gtfs_links.specs.declared.check.wrong.Column.TheVariants as column
+use Rattle.gtfs_links.specs.declared.check.wrong.Wrong.{Wrong}
+use Rattle.gtfs_links.specs.Faults.{duplicate, fault_of_row, first_wrong, other_zone, unknown}
 
 -- nothing stands in the field
 abbrev pub is_empty : List ℕ → Bool
@@ -37,8 +39,8 @@ agency_rule zone before row = zone_wrong zone row
 
 -- an `agency.txt` without records has no time zone, which is a fault of its header
 abbrev pub agency_fault : List ℕ → List AgencyRow → Option FeedFault
-agency_fault zone [] = Some (fault_at 1 0 other_zone)
-agency_fault zone (row ∷ rows) = first_wrong 1 (agency_rule zone) [] (row ∷ rows)
+agency_fault zone [] = Some (fault_of_row file.Agency 0 other_zone)
+agency_fault zone (row ∷ rows) = first_wrong file.Agency (agency_rule zone) [] (row ∷ rows)
 
 -- a file whose records are only to differ by their ids
 abbrev pub repeat_wrong : Column → Bool → Option Wrong
@@ -78,12 +80,15 @@ trip_rule routes services before row = trip_wrong (is_repeated id_of_trip before
 abbrev pub is_same_call : StopTimeRow → StopTimeRow → Bool
 is_same_call row other = bytes_eq row.trip_id other.trip_id && nat_eq row.stop_sequence other.stop_sequence
 
-abbrev pub time_wrong : Bool → (List ℕ → Bool) → (List ℕ → Bool) → StopTimeRow → Option Wrong
-time_wrong repeated trips stops row =
+abbrev pub wrong_call : Bool → Bool → Bool → Option Wrong
+wrong_call repeated has_trip unknown_stop =
     if repeated then Some (duplicate column.StopSequence)
-    else if not (trips row.trip_id) then Some (unknown column.TripId)
-    else if is_unknown stops row.stop_id then Some (unknown column.StopId)
+    else if not has_trip then Some (unknown column.TripId)
+    else if unknown_stop then Some (unknown column.StopId)
     else None
+
+abbrev pub time_wrong : Bool → (List ℕ → Bool) → (List ℕ → Bool) → StopTimeRow → Option Wrong
+time_wrong repeated trips stops row = wrong_call repeated (trips row.trip_id) (is_unknown stops row.stop_id)
 
 abbrev pub time_rule : (List ℕ → Bool) → (List ℕ → Bool) → List StopTimeRow → StopTimeRow → Option Wrong
 time_rule trips stops before row = time_wrong (list_any (is_same_call row) before) trips stops row
@@ -104,3 +109,16 @@ transfer_wrong stops row =
 
 abbrev pub transfer_rule : (List ℕ → Bool) → List TransferLine → TransferLine → Option Wrong
 transfer_rule stops before row = transfer_wrong stops row
+
+-- `frequencies.txt`: a trip has one row for each start_time, where these trips are there
+abbrev pub is_same_start : FrequencyRow → FrequencyRow → Bool
+is_same_start row other = bytes_eq row.trip_id other.trip_id && nat_eq row.start_time other.start_time
+
+abbrev pub wrong_start : Bool → Bool → Option Wrong
+wrong_start repeated has_trip =
+    if repeated then Some (duplicate column.StartTime)
+    else if not has_trip then Some (unknown column.TripId)
+    else None
+
+abbrev pub frequency_rule : (List ℕ → Bool) → List FrequencyRow → FrequencyRow → Option Wrong
+frequency_rule trips before row = wrong_start (list_any (is_same_start row) before) (trips row.trip_id)

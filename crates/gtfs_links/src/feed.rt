@@ -1,18 +1,28 @@
-ghost use Rattle.std.specs.Prelude.{◌≡◌, ◌≤◌, IfOk};
+ghost use Rattle.std.specs.Prelude.{◌≡◌, ◌≢◌, ◌≤◌, IfErr, IfOk};
+ghost use Rattle.otp_base.specs.Answers.{Gives};
+ghost use Rattle.otp_model.specs.FeedFaults.{told_of};
+ghost use Rattle.otp_model.specs.Limits.{most_scale};
 ghost use Rattle.otp_model.specs.Rows.{AreTables};
+ghost use Rattle.gtfs_links.specs.Linked.{linked_of};
 ghost use Rattle.gtfs_links.specs.Resolved.{IsResolved};
-ghost use Rattle.gtfs_links.specs.Linked.{AreNumbers, Links, feed_of, linked_of, passed_of};
 
-use crate::calls::{called_twice, count_unnamed};
 use crate::check::check;
 use crate::indexes::Indexes;
-use crate::kept::{kept_names, kept_trips};
-use crate::linked_stops::linked_stops;
-use crate::linked_times::{Places, linked_times};
-use crate::linked_transfers::linked_transfers;
-use otp_base::{List, Memory};
-use otp_model::{FeedFault, Stop, Tables, TimeRow, TransferRow, Trip};
+use crate::linking::linked_feed;
+use crate::numbers::Numbers;
+use otp_base::List;
+use otp_model::{FeedFault, Stop, Tables, TimeRow, TransferRow, Trip, TripNo};
 use std::alloc::Global;
+
+/// A row of `frequencies.txt` of a trip that is kept: it starts at `start` and then every `headway` seconds,
+/// before `end`, in seconds from noon less 12 hours of the service day.
+#[derive(Clone, Copy, Debug, PartialEq, Eq)]
+pub struct HeadwayRow {
+    pub trip: TripNo,
+    pub start: u32,
+    pub end: u32,
+    pub headway: u32,
+}
 
 /// A feed whose references are resolved, each list in row order.
 #[derive(Debug, Drop)]
@@ -27,6 +37,8 @@ pub struct Linked {
     pub transfers: List<TransferRow>,
     /// How many rows of `stop_times.txt` name no stop, and how many trips aren't kept.
     pub passed: u64,
+    /// The rows of `frequencies.txt` of the trips kept.
+    pub headways: List<HeadwayRow>,
 }
 
 /// Resolves the references of a feed's records. Stops and trips go by their place in the lists of the
@@ -35,11 +47,11 @@ pub struct Linked {
 ///
 /// # Errors
 ///
-/// `At` with the first fault, exactly: over the files 1 to 8 by row, in a row by the number of the cause and
+/// `At` with the first fault, exactly: over the files 1 to 9 by row, in a row by the number of the cause and
 /// then in the order of the columns. The causes are 7, a key that an earlier row of the file has (the ids of
-/// stops, routes, trips and of `calendar.txt`, trip and `stop_sequence`, service and date); 8, a foreign id
-/// that no record has; 9, an agency of another time zone than `zone_name`, which is a fault of row 0 where
-/// there is no agency.
+/// stops, routes, trips and of `calendar.txt`, trip and `stop_sequence`, service and date, trip and
+/// `start_time`); 8, a foreign id that no record has; 9, an agency of another time zone than `zone_name`, which
+/// is a fault of row 0 where there is no agency.
 pub fn link(
     alloc: Global,
     tables: &Tables,
@@ -47,59 +59,20 @@ pub fn link(
     scale: u32,
 ) -> Result<Linked, FeedFault>
     requires tables { AreTables tables.now }
-    requires scale { scale ≤ 111195 }
-    ensures links { Links result (linked_of tables.now zone_name.now scale) }
+    requires scale { scale ≤ most_scale }
+    ensures links { Gives (λ linked. linked) told_of result (linked_of tables.now zone_name.now scale) }
+    ensures reads_nothing { IfErr result (λ fault. fault ≢ FeedFault.Read) }
     ensures resolved { IfOk result IsResolved }
 {
     let Ok(indexes) = Indexes::of(alloc, tables) else {
         return Err(FeedFault::Memory);
     };
-    check(alloc, tables, zone_name, &indexes)?;
-    match linked_feed(alloc, tables, scale, &indexes) {
+    let Ok(numbers) = Numbers::of(alloc, tables, &indexes) else {
+        return Err(FeedFault::Memory);
+    };
+    check(alloc, tables, zone_name, &indexes, &numbers)?;
+    match linked_feed(alloc, tables, scale, &indexes, &numbers) {
         Ok(linked) => Ok(linked),
         Err(_) => Err(FeedFault::Memory),
     }
-}
-
-/// The linked feed of tables without a fault.
-fn linked_feed(
-    alloc: Global,
-    tables: &Tables,
-    scale: u32,
-    indexes: &Indexes,
-) -> Result<Linked, Memory>
-    requires tables { AreTables tables.now }
-    requires scale { scale ≤ 111195 }
-    requires numbers { AreNumbers tables.now indexes.now }
-    ensures { IfOk result (λ linked. linked ≡ feed_of scale tables.now) }
-{
-    let twice = called_twice(alloc, tables.stop_times.as_slice())?;
-    let kept = kept_names(alloc, &twice, tables.trips.as_slice())?;
-    let trips = kept_trips(alloc, indexes, &twice, tables.trips.as_slice())?;
-    let stops = linked_stops(alloc, scale, &indexes.stops, tables.stops.as_slice())?;
-    let places = Places {
-        rows: tables.stops.as_slice(),
-        stops: &indexes.stops,
-        trips: &kept,
-    };
-    let times = linked_times(alloc, &places, tables.stop_times.as_slice())?;
-    let transfers = linked_transfers(alloc, &indexes.stops, tables.transfers.as_slice())?;
-    let passed = passed(tables, kept.len());
-    Ok(Linked {
-        stops,
-        trips,
-        times,
-        transfers,
-        passed,
-    })
-}
-
-/// How many rows of `stop_times.txt` name no stop, and how many trips aren't kept.
-fn passed(tables: &Tables, kept: usize) -> u64
-    requires { AreTables tables.now }
-    ensures { result ≡ passed_of tables.now kept }
-{
-    let unnamed = count_unnamed(tables.stop_times.as_slice());
-    let trips = tables.trips.len();
-    unnamed as u64 + trips.saturating_sub(kept) as u64
 }

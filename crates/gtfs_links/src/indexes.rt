@@ -2,7 +2,7 @@ ghost use Rattle.std.specs.Prelude.{◌≡◌, ℕ, List, ◌++◌, IfOk, OnOk, 
 ghost use Rattle.otp_model.specs.Sights.{first_sights};
 ghost use Rattle.gtfs_links.specs.Index.{AreIndexes};
 
-use crate::ids::Identified;
+use crate::identified::Identified;
 use name_index::Names;
 use otp_base::Memory;
 use otp_model::Tables;

@@ -1,29 +1,25 @@
 //! A feed whose records name one another (GTFS Schedule reference): ids become numbers in row order.
 //!
 //! `link` looks for a key that stands twice, a reference to a record that isn't there and an agency of
-//! another time zone, and gives the first such fault of the files 1 to 8. Where there is none it gives the
-//! stops, the trips kept, their calls and the transfers, all by number.
+//! another time zone, and gives the first such fault over the files. Where there is none it gives the stops,
+//! the trips kept, their calls, the transfers and the headways, all by number.
+//!
+//! # Choices
+//!
+//! Each id is looked up once: `numbers` has what the rows of the long files name, and both phases, `check` and
+//! `linking`, go by it. Rows of a trip stand together in most feeds, so a row's trip is looked up only where
+//! the row before has another. And where the sequences of each trip rise from row to row, as they mostly do,
+//! no two calls are the same, and no set of keys is made.
 #![tactic(auto)]
 
-mod agencies;
-mod calls;
 mod check;
-mod dates;
 mod feed;
-mod ids;
+mod identified;
 mod indexes;
-mod kept;
-mod keys;
-mod linked_stops;
-mod linked_times;
-mod linked_transfers;
-mod stop_times;
-mod stops;
-mod transfers;
-mod trips;
-mod wrong;
+mod linking;
+mod numbers;
 
-pub use feed::{Linked, link};
+pub use feed::{HeadwayRow, Linked, link};
 pub use otp_model::{TimeRow, TransferRow};
 
 #[cfg(test)]

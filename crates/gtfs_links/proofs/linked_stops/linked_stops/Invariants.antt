@@ -1,6 +1,0 @@
-use Rattle.std.proofs.Common.{◌≡◌, map, take}
-use Rattle.gtfs_links.specs.Linked.{stop_at}
-use Rattle.gtfs_links.proofs.linked_stops.linked_stops.Given as goal
-
-abbrev pub invariant-loop-row : goal.invariant-loop-row
-invariant-loop-row l = l.linked ≡ map (stop_at l.scale l.stops) (take l.row-index l.rows)
