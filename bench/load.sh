@@ -3,7 +3,41 @@
 # `check` on both over one day and over seven, and prints rows a second, peak memory a row, the ratio of the two
 # times, and the ratio to reading the bytes alone. It fails where ten times the rows take more than twelve times
 # as long.
+#
+# load.sh FOLDER [OTHER_PROGRAM] measures `check` over one day of that folder alone: the least processor milliseconds of
+# three runs and the peak memory a row, for the built program and, in turn, for another build of it, with the ratios.
 . "$(dirname "$0")/common.sh"
+
+# The milliseconds of processor time of a command, user's and system's.
+spent() {
+    before=$(cut -d ' ' -f 16,17 "/proc/$$/stat")
+    "$@" >/dev/null || exit 1
+    after=$(cut -d ' ' -f 16,17 "/proc/$$/stat")
+    echo "$before $after $(getconf CLK_TCK)" | awk '{ print int(($3 + $4 - $1 - $2) * 1000 / $5) }'
+}
+
+# measure PROGRAM FOLDER
+measure() {
+    least_spent=
+    for turn in 1 2 3; do
+        took=$(spent "$1" check "$2" --zone Etc/UTC=UTC0 --from 20240506 --days 1)
+        if [ -z "$least_spent" ] || [ "$took" -lt "$least_spent" ]; then least_spent=$took; fi
+    done
+    held=$(peak "$1" check "$2" --zone Etc/UTC=UTC0 --from 20240506 --days 1)
+}
+
+if [ $# -gt 0 ]; then
+    rows=$(($(wc -l <"$1/stop_times.txt") - 1))
+    measure "$program" "$1"
+    echo "rows=$rows processor_ms=$least_spent bytes_of_memory_per_row=$((held * 1024 / rows))"
+    if [ $# -gt 1 ]; then
+        own_spent=$least_spent own_held=$held
+        measure "$2" "$1"
+        echo "other: processor_ms=$least_spent bytes_of_memory_per_row=$((held * 1024 / rows))"
+        echo "ratio_of_times=$((own_spent * 100 / least_spent))/100 ratio_of_memory=$((own_held * 100 / held))/100"
+    fi
+    exit 0
+fi
 
 # make NAME TRIPS
 make() {

@@ -1,6 +1,6 @@
 -- What is answered and written, put together.
-use Rattle.std.proofs.Common.{◌≡◌, inl, inr, ℕ, List, Option, Some, None, refl, subst, sym}
-use Rattle.command_words.specs.Commands.{IsTask, Meets, Task, task_of}
+use Rattle.std.proofs.Common.{◌≡◌, inl, inr, ℕ, List, Option, Some, None, IsSomeAnd, refl, subst, sym}
+use Rattle.command_words.specs.Commands.{IsTask, Task, task_of}
 use Rattle.command_words.specs.Commands.Task.{check, plan}
 use Rattle.command_words.specs.declared.command.Command.TheVariants as commands
 use Rattle.otp_base.specs.declared.folder.FileEntry.{FileEntry}
@@ -16,7 +16,7 @@ use Rattle.otp_server.specs.declared.status.Status.TheVariants as status
 -- ---- a command
 
 pub check_done : (files : Option (List FileEntry)) (words : List (List ℕ)) (on : _) (options : Options) (text : List ℕ) (read : Option Task)
-    → task_of words ≡ read → Meets IsTask read (Some (commands.Check on options)) → Checks files on.now options text → IsDone files words text
+    → task_of words ≡ read → IsSomeAnd read (IsTask (commands.Check on options)) → Checks files on.now options text → IsDone files words text
 check_done files words on options text None e m h = absurd m
 check_done files words on options text (Some (plan path query asked)) e m h = absurd m
 check_done files words on options text (Some (check path asked)) e m h = record {
@@ -27,7 +27,7 @@ check_done files words on options text (Some (check path asked)) e m h = record 
 }
 
 pub plan_done : (files : Option (List FileEntry)) (words : List (List ℕ)) (on of : _) (options : Options) (text : List ℕ) (read : Option Task)
-    → task_of words ≡ read → Meets IsTask read (Some (commands.Plan on of options)) → Plans files on.now options of.now text → IsDone files words text
+    → task_of words ≡ read → IsSomeAnd read (IsTask (commands.Plan on of options)) → Plans files on.now options of.now text → IsDone files words text
 plan_done files words on of options text None e m h = absurd m
 plan_done files words on of options text (Some (check path asked)) e m h = absurd m
 plan_done files words on of options text (Some (plan path query asked)) e m h = record {
@@ -48,7 +48,7 @@ failed_refused files words (refusal.Request fault) h = h
 failed_refused files words refusal.Memory h = tt
 
 pub check_refused : (files : Option (List FileEntry)) (words : List (List ℕ)) (on : _) (options : Options) (why : Refusal) (read : Option Task)
-    → task_of words ≡ read → Meets IsTask read (Some (commands.Check on options)) → IsFeedFault files on.now options why → IsRefused files words why
+    → task_of words ≡ read → IsSomeAnd read (IsTask (commands.Check on options)) → IsFeedFault files on.now options why → IsRefused files words why
 check_refused files words on options why None e m h = absurd m
 check_refused files words on options why (Some (plan path query asked)) e m h = absurd m
 check_refused files words on options why (Some (check path asked)) e m h = failed_refused files words why (record {
@@ -59,7 +59,7 @@ check_refused files words on options why (Some (check path asked)) e m h = faile
 })
 
 pub plan_refused : (files : Option (List FileEntry)) (words : List (List ℕ)) (on of : _) (options : Options) (why : Refusal) (read : Option Task)
-    → task_of words ≡ read → Meets IsTask read (Some (commands.Plan on of options)) → IsPlanFault files on.now options of.now why → IsRefused files words why
+    → task_of words ≡ read → IsSomeAnd read (IsTask (commands.Plan on of options)) → IsPlanFault files on.now options of.now why → IsRefused files words why
 plan_refused files words on of options why None e m h = absurd m
 plan_refused files words on of options why (Some (check path asked)) e m h = absurd m
 plan_refused files words on of options why (Some (plan path query asked)) e m h = failed_refused files words why (record {

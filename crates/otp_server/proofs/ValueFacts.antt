@@ -16,18 +16,18 @@ use Rattle.otp_model.specs.declared.timetable.Edges.{Edges}
 use Rattle.otp_model.specs.declared.timetable.Feed.{Feed}
 use Rattle.otp_model.specs.declared.journey.Value.{Value}
 use Rattle.otp_model.specs.Journeys.{Follows, HasValue, IsJourney, IsRide, arrival_after, rides_of, walked_of}
+use Rattle.otp_model.specs.Limits.{least_walk_points, most_board_points, most_reach, most_rides, most_walk_points}
 use Rattle.otp_model.specs.Plane.{IsReached}
-use Rattle.otp_model.specs.Ranges.{IsServiceDay}
-use Rattle.otp_model.specs.Sound.{IsSound, IsSoundCall, IsSoundRun}
+use Rattle.otp_model.specs.Sound.{IsSound, IsSoundCall, IsSoundName, IsSoundRun}
 use Rattle.otp_model.specs.Whole.{IsInWindow}
 use Rattle.paging.specs.Text.{FitsText}
-use Rattle.plan_json.specs.Journeys.{IsLegOf, IsRideOf}
+use Rattle.plan_json.specs.Journeys.{IsLegOf, IsRideOf, IsTripOf}
 use Rattle.plan_json.specs.Plan.{IsFoundOf}
 use Rattle.planner.specs.Entries.{IsEntry}
 use Rattle.query_form.specs.Query.{IsAsked}
 
 -- a walk to or from a place is no longer than the reach has millimetres, and a second
-reached_seconds : (edges : Edges) (place : _) (stop seconds : ℕ) → edges.profile.reach ≤ 5000000 → IsReached edges place stop seconds → seconds ≤ 5000001
+reached_seconds : (edges : Edges) (place : _) (stop seconds : ℕ) → edges.profile.reach ≤ most_reach → IsReached edges place stop seconds → seconds ≤ most_reach + 1
 reached_seconds edges place stop seconds small h =
     let near = h.way.walk.is_distance.least edges.profile.reach h.way.within in
     omega (arith, near, small, h.way.walk.seconds_are, div-le_self h.way.walk.distance edges.profile.speed)
@@ -45,6 +45,7 @@ call_at stops calls n call all within is = subst (IsSoundCall stops) is (all n c
 sound_ride : (feed : Feed) (name : RunName) (board alight : Call) → IsSound feed → IsRide feed.runs name board alight → IsSoundRide feed name board alight
 sound_ride feed name board alight sound h =
     let run = All-contains (IsSoundRun _ _) feed.runs h.run sound.runs h.on in
+    let named = subst (IsSoundName (length feed.trips)) (sym h.is.name_is) run.name in
     let lb = slice_get_within h.run.calls h.from board h.is.boards in
     let la = slice_get_within h.run.calls h.to alight h.is.alights in
     let b = get_or_from_slice_get h.run.calls h.from board board h.is.boards in
@@ -55,8 +56,8 @@ sound_ride feed name board alight sound h =
     let apart = (run.along h.from h.to alight h.is.before la).forward in
     record {
       of = record {
-        trip_is = subst (λ (n : ℕ). n < length feed.trips) (sym h.is.trip_is) run.trip;
-        day_is = subst IsServiceDay (sym h.is.day_is) run.day;
+        trip_is = subst (IsTripOf feed) (sym named.planned) named.trip;
+        day_is = named.day;
         board_is = boards.stop;
         alight_is = alights.stop;
       };
@@ -70,9 +71,9 @@ sound_ride feed name board alight sound h =
 pub record AreSoundLegs (feed : Feed) (last : Call) (walk : ℕ) (legs : List Leg) : Type 0 where
   pub of : All (IsLegOf feed) legs
   pub low : (last.arrival +ℤ pos (walk + walked_of legs)) ≤ℤ arrival_after (last.arrival +ℤ pos walk) legs
-  pub high : arrival_after (last.arrival +ℤ pos walk) legs ≤ℤ pos (2 ^ 36 + 5000001)
+  pub high : arrival_after (last.arrival +ℤ pos walk) legs ≤ℤ pos (2 ^ 36 + (most_reach + 1))
 
-ends : (arrival : ℤ) (walk : ℕ) → arrival ≤ℤ pos (2 ^ 36) → walk ≤ 5000001 → ((arrival +ℤ pos (walk + 0)) ≤ℤ (arrival +ℤ pos walk)) × ((arrival +ℤ pos walk) ≤ℤ pos (2 ^ 36 + 5000001))
+ends : (arrival : ℤ) (walk : ℕ) → arrival ≤ℤ pos (2 ^ 36) → walk ≤ most_reach + 1 → ((arrival +ℤ pos (walk + 0)) ≤ℤ (arrival +ℤ pos walk)) × ((arrival +ℤ pos walk) ≤ℤ pos (2 ^ 36 + (most_reach + 1)))
 ends arrival walk high small = (omega (arith, ints), omega (arith, ints, high, small))
 
 goes_on : (last board alight end : ℤ) (walk slack minimum next walked : ℕ) → (last +ℤ pos (max (walk + slack) minimum)) ≤ℤ board → board ≤ℤ alight
@@ -86,45 +87,45 @@ takes board alight departure end first next walked is forward h = omega (arith, 
 -- what a journey costs that takes no more than about two thousand years
 cost_small : (cost walk_points board_points walked rides : ℕ) (departure arrival : ℤ)
     → pos cost ≡ ((pos 100 *ℤ (arrival -ℤ departure)) +ℤ (((pos walk_points -ℤ pos 100) *ℤ pos walked) +ℤ (pos board_points *ℤ pos rides)))
-    → 100 ≤ walk_points → walk_points ≤ 2000 → board_points ≤ 1000000 → rides ≤ 8 → pos 0 ≤ℤ departure
-    → (departure +ℤ pos walked) ≤ℤ arrival → arrival ≤ℤ pos (2 ^ 36 + 5000001) → cost < 10 ^ 18
+    → least_walk_points ≤ walk_points → walk_points ≤ most_walk_points → board_points ≤ most_board_points → rides ≤ most_rides → pos 0 ≤ℤ departure
+    → (departure +ℤ pos walked) ≤ℤ arrival → arrival ≤ℤ pos (2 ^ 36 + (most_reach + 1)) → cost < 10 ^ 18
 cost_small cost walk_points board_points walked rides departure arrival h least most points few early late end =
     let extra : (pos walk_points -ℤ pos 100) ≡ pos (walk_points - 100) = omega (arith, ints, least) in
     let k = subst (λ (z : ℤ). pos cost ≡ ((pos 100 *ℤ (arrival -ℤ departure)) +ℤ ((z *ℤ pos walked) +ℤ (pos board_points *ℤ pos rides)))) extra h in
     let little : walked ≤ 2 ^ 37 = omega (arith, ints, early, late, end) in
-    let walking = mul-le (walk_points - 100) walked 1900 (2 ^ 37) (omega (arith, most)) little in
-    let boarding = mul-le board_points rides 1000000 8 points few in
+    let walking = mul-le (walk_points - 100) walked (most_walk_points - 100) (2 ^ 37) (omega (arith, most)) little in
+    let boarding = mul-le board_points rides most_board_points most_rides points few in
     omega (arith, ints, k, walking, boarding, early, end)
 
-module _ (feed : Feed) (edges : Edges) (r : Request) (sound : IsSound feed) (small : edges.profile.reach ≤ 5000000) where
+module _ (feed : Feed) (edges : Edges) (r : Request) (sound : IsSound feed) (small : edges.profile.reach ≤ most_reach) where
   follows : (last : Call) (walk : ℕ) (legs : List Leg) → last.arrival ≤ℤ pos (2 ^ 36) → Follows feed.runs edges r last walk legs → AreSoundLegs feed last walk legs
   follows last walk [] high h =
       let e = ends last.arrival walk high (reached_seconds edges r.to last.stop walk small h) in
       record { of = All-nil (IsLegOf feed); low = e.0; high = e.1 }
-  follows last walk (Ride t b a ∷ Walk w ∷ legs) high h =
-      let ride = sound_ride feed t b a sound h.1 in
+  follows last walk (Ride n b a ∷ Walk w ∷ legs) high h =
+      let ride = sound_ride feed n b a sound h.1 in
       let rest = follows a w legs ride.high h.2 in
       record {
-        of = All-cons (IsLegOf feed) (Ride t b a) (Walk w ∷ legs) ride.of (All-cons (IsLegOf feed) (Walk w) legs tt rest.of);
+        of = All-cons (IsLegOf feed) (Ride n b a) (Walk w ∷ legs) ride.of (All-cons (IsLegOf feed) (Walk w) legs tt rest.of);
         low = goes_on last.arrival b.departure a.arrival _ walk r.slack h.0.edge.minimum w (walked_of legs) h.0.in_time ride.forward rest.low;
         high = rest.high;
       }
-  follows last walk (Ride t b a ∷ Ride t' b' a' ∷ legs) high h = absurd h
-  follows last walk (Ride t b a ∷ []) high h = absurd h
+  follows last walk (Ride n b a ∷ Ride n' b' a' ∷ legs) high h = absurd h
+  follows last walk (Ride n b a ∷ []) high h = absurd h
   follows last walk (Walk w ∷ legs) high h = absurd h
 
   pub journey : (legs : List Leg) (v : Value) → IsJourney feed.runs edges r legs → HasValue r legs v → IsInWindow r v → IsAsked feed.stops r
       → All (IsLegOf feed) legs × FitsText (record { commit = 0; value = v })
-  journey (Walk first ∷ Ride t b a ∷ Walk next ∷ legs) v h has in_window asked =
-      let ride = sound_ride feed t b a sound h.1 in
+  journey (Walk first ∷ Ride n b a ∷ Walk next ∷ legs) v h has in_window asked =
+      let ride = sound_ride feed n b a sound h.1 in
       let rest = follows a next legs ride.high h.2 in
       let departs : ℤ = b.departure -ℤ pos first in
       let arrives : ℤ = arrival_after (a.arrival +ℤ pos next) legs in
       let early : pos 0 ≤ℤ departs = omega (arith, ints, in_window.not_before, asked.time.0, has.departure) in
       let late = takes b.departure a.arrival departs arrives first next (walked_of legs) refl ride.forward rest.low in
-      let few : 1 + rides_of legs ≤ 8 = omega (arith, h.3, asked.numbers.rides.1) in (
-        All-cons (IsLegOf feed) (Walk first) (Ride t b a ∷ Walk next ∷ legs) tt
-            (All-cons (IsLegOf feed) (Ride t b a) (Walk next ∷ legs) ride.of (All-cons (IsLegOf feed) (Walk next) legs tt rest.of)),
+      let few : 1 + rides_of legs ≤ most_rides = omega (arith, h.3, asked.numbers.rides.1) in (
+        All-cons (IsLegOf feed) (Walk first) (Ride n b a ∷ Walk next ∷ legs) tt
+            (All-cons (IsLegOf feed) (Ride n b a) (Walk next ∷ legs) ride.of (All-cons (IsLegOf feed) (Walk next) legs tt rest.of)),
         record {
           commit = omega arith;
           departure = record {
