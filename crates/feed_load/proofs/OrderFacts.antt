@@ -1,42 +1,20 @@
 -- Rows by rising sequence.
-use Rattle.std.proofs.Common.{◌≡◌, ◌≢◌, ℕ, ◌<◌, ◌==◌, Bool, false, suc, List, [], ◌∷◌, length, get_or, ap, subst, inl, inr, arith}
-use Rattle.std.specs.List.{All, AllPairs, AllByRecursion, Contains, IsDistinct}
+use Rattle.std.proofs.Common.{◌≡◌, ◌≢◌, ℕ, ◌<◌, ◌==◌, Bool, false, List, length, get_or, ap, subst, inl, inr, arith}
+use Rattle.std.specs.List.{All, AllPairs, Contains}
 use Rattle.std.specs.List.Sorted.{IsPermutation, IsSortedByKey}
 use Rattle.std.specs.Cmp.{nat_cmp_is}
 use Rattle.std.specs.Ordering.{is_lt, nat_cmp}
 use Rattle.std.specs.declared.cmp.Ordering.TheVariants.{Less}
 use Rattle.std.proofs.lemmas.Bool.{cases_eq, cases_lt, eqb-false, ne_eqb}
 use Rattle.std.proofs.lemmas.Cmp.{nat_cmp_total}
-use Rattle.std.proofs.lemmas.List.Elements.{All-cons, All-nil, Contains-get_or}
-use Rattle.std.proofs.lemmas.List.Kept.{AllPairs-cons}
+use Rattle.std.proofs.lemmas.List.Elements.{Contains-get_or}
 use Rattle.std.proofs.lemmas.List.MinMax.{ranks_by}
 use Rattle.std.proofs.lemmas.List.Sorted.{Contains-permutation, IsPermutation-sym, sorted_far}
-use Rattle.std.proofs.lemmas.Map.Keys.{IsDistinct-IsPermutation, IsDistinct-cons, IsDistinct-head, IsDistinct-tail}
+use Rattle.std.proofs.lemmas.Map.Keys.{IsDistinct-IsPermutation}
 use Rattle.otp_model.specs.declared.links.TimeRow.{TimeRow}
 use Rattle.feed_load.specs.Anchors.{AreRows, HasClocks}
+use Rattle.feed_load.proofs.RisingLemmas.{distinct_from_pairs, pairs_from_distinct}
 use Rattle.feed_load.specs.Calls.{IsInOrder}
-
-module _ {X : Type 0} (e : X → X → Bool) where
-  each_from : (x : X) (xs : List X) → AllByRecursion (λ (y : X). e x y ≡ false) xs → All (λ (y : X). e x y ≡ false) xs
-  each_from x [] h = All-nil (λ (y : X). e x y ≡ false)
-  each_from x (y ∷ ys) h = All-cons (λ (y : X). e x y ≡ false) y ys h.0 (each_from x ys h.1)
-
-  -- no two of a list are the same by a test, both ways of saying it
-  pub pairs_from_distinct : (xs : List X) → IsDistinct e xs → AllPairs (λ (x : X) (y : X). e x y ≡ false) xs
-  pairs_from_distinct [] h = λ i j d less within. absurd (omega arith)
-  pairs_from_distinct (x ∷ xs) h =
-      AllPairs-cons (λ (x : X) (y : X). e x y ≡ false) x xs (each_from x xs (IsDistinct-head e x xs h)) (pairs_from_distinct xs (IsDistinct-tail e x xs h))
-
-  each_to : (x : X) (xs : List X) → All (λ (y : X). e x y ≡ false) xs → AllByRecursion (λ (y : X). e x y ≡ false) xs
-  each_to x [] h = tt
-  each_to x (y ∷ ys) h = (h 0 y (omega arith), each_to x ys (λ k d less. h (suc k) d (omega (arith, less))))
-
-  pub distinct_from_pairs : (xs : List X) → AllPairs (λ (x : X) (y : X). e x y ≡ false) xs → IsDistinct e xs
-  unfolding IsDistinct
-  distinct_from_pairs [] h = tt
-  distinct_from_pairs (x ∷ xs) h =
-      IsDistinct-cons e x xs (each_to x xs (λ k d less. h 0 (suc k) d (omega arith) (omega (arith, less))))
-      (distinct_from_pairs xs (λ i j d less within. h (suc i) (suc j) d (omega (arith, less)) (omega (arith, within))))
 
 abbrev pub same_seq : TimeRow → TimeRow → Bool
 same_seq a b = a.seq == b.seq

@@ -14,7 +14,7 @@ use Rattle.feed_load.specs.Calls.{GivesTimesAt, IsCallAt, first_given, rows_of}
 use Rattle.feed_load.specs.Runs.{HasClock, IsSoundTrip}
 use Rattle.feed_load.specs.Trips.{AreGoodCalls, IsTripOf}
 use Rattle.feed_load.proofs.AlongFacts.{forward, stays}
-use Rattle.feed_load.proofs.EachFacts.{each_read}
+use Rattle.otp_base.proofs.EachAtLemmas.{each_read}
 use Rattle.feed_load.proofs.OrderFacts.{in_order_all, in_order_some}
 
 given_small : (one other : Option ℕ) (time : ℕ) → IsClock one → IsClock other → first_given one other ≡ Some time → time < 3600000

@@ -1,6 +1,7 @@
 -- The rows with times that stand round a place.
 use Rattle.std.specs.Prelude.{ℕ, ◌-◌, ◌^◌, ◌<◌, ◌≤◌, List, length}
 use Rattle.std.specs.List.{All}
+use Rattle.otp_model.specs.Limits.{clock_end}
 use Rattle.otp_model.specs.Rows.{IsClock}
 use Rattle.otp_model.specs.declared.links.TimeRow.{TimeRow}
 use Rattle.feed_load.specs.declared.gap.Anchor.{Anchor}
@@ -14,7 +15,7 @@ pub record HasClocks (row : TimeRow) : Type 0 where
   pub departure : IsClock row.departure
 
 abbrev pub AreSmall : Times → Type 0
-AreSmall times = (times.arrival < 3600000) × (times.departure < 3600000)
+AreSmall times = (times.arrival < clock_end) × (times.departure < clock_end)
 
 -- rows of a trip
 pub record AreRows (rows : List TimeRow) : Type 0 where
@@ -25,7 +26,7 @@ pub record AreRows (rows : List TimeRow) : Type 0 where
 pub record IsLeft (rows : List TimeRow) (place : ℕ) (left : Anchor) : Type 0 where
   pub before : left.place ≤ place
   pub gives : (arrival : ℕ) × GivesTimesAt rows left.place arrival left.time
-  pub small : left.time < 3600000
+  pub small : left.time < clock_end
   pub between : (k : ℕ) → left.place < k → k < place → IsUntimedAt rows k
 
 -- the first row at a place, or behind it, that gives times, with its arrival
@@ -33,7 +34,7 @@ pub record IsReached (rows : List TimeRow) (place : ℕ) (reached : Anchor) : Ty
   pub behind : place ≤ reached.place
   pub within : reached.place < length rows
   pub gives : (departure : ℕ) × GivesTimesAt rows reached.place reached.time departure
-  pub small : reached.time < 3600000
+  pub small : reached.time < clock_end
   pub between : (k : ℕ) → place ≤ k → k < reached.place → IsUntimedAt rows k
 
 -- the departure of the first row and the arrival of the last one
@@ -41,5 +42,5 @@ pub record AreEnds (rows : List TimeRow) (ends : Ends) : Type 0 where
   pub some : 0 < length rows
   pub first : (arrival : ℕ) × GivesTimesAt rows 0 arrival ends.departure
   pub last : (departure : ℕ) × GivesTimesAt rows (length rows - 1) ends.arrival departure
-  pub leaves : ends.departure < 3600000
-  pub arrives : ends.arrival < 3600000
+  pub leaves : ends.departure < clock_end
+  pub arrives : ends.arrival < clock_end

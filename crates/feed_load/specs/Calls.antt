@@ -5,7 +5,7 @@ use Rattle.std.specs.Prelude.{◌≡◌, ◌⊎◌, ℕ, ◌-◌, ◌<◌, ℤ, 
 use Rattle.std.specs.Int.{int_div_euclid}
 use Rattle.std.specs.List.{AllPairs, Contains, filter}
 use Rattle.gtfs_links.specs.Resolved.{is_time_of}
-pub use Rattle.walk_table.specs.Edges.{EachAt}
+use Rattle.otp_base.specs.EachAt.{EachAt}
 use Rattle.otp_model.specs.declared.links.TimeRow.{TimeRow}
 use Rattle.otp_model.specs.declared.timetable.Call.{Call}
 

@@ -1,5 +1,9 @@
+pub mod ByTrip
+pub mod Marks
+pub mod Starts
 pub mod Calls
 pub mod Anchors
 pub mod Trips
 pub mod Runs
+pub mod TripTables
 pub mod Loaded

@@ -1,9 +1,9 @@
 -- What is told of a trip's rows that are in order: its calls, or its first fault.
-use Rattle.std.specs.Prelude.{◌≡◌, ◌≢◌, ◌<◌, ◌^◌, ℕ, List, [], ◌∷◌, ◌++◌, length, Some, slice_get, slice_index_or, slice_set}
+use Rattle.std.specs.Prelude.{◌≡◌, ◌≢◌, ◌<◌, ◌^◌, ℕ, List, length, Some, slice_get}
 use Rattle.std.specs.List.{All, AllPairs}
 use Rattle.otp_model.specs.declared.links.TimeRow.{TimeRow}
 use Rattle.otp_model.specs.declared.timetable.Call.{Call}
-use Rattle.feed_load.specs.Calls.{AreCallsOf, FallsAt, FallsFirstAt, HasEnds, IsInOrder, LacksAnEndAt, EachAt, rows_of}
+use Rattle.feed_load.specs.Calls.{AreCallsOf, FallsAt, FallsFirstAt, HasEnds, IsInOrder, LacksAnEndAt, rows_of}
 use Rattle.feed_load.specs.Anchors.{HasClocks}
 use Rattle.feed_load.specs.declared.trip_calls.TripFault.{TripFault}
 use Rattle.feed_load.specs.declared.trip_calls.TripFault.TheVariants as fault
@@ -37,17 +37,9 @@ IsTripFault rows (fault.NoTimes row) = LacksAnEnd rows row
 IsTripFault rows (fault.TimesFall row) = FallsAtRow rows row
 IsTripFault rows fault.Memory = Unit {0}
 
--- the rows of each trip, in row order
-pub record AreGroups (trips : ℕ) (times : List TimeRow) (groups : List (List TimeRow)) : Type 0 where
-  pub count : length groups ≡ trips
-  pub each : EachAt (λ trip rows. rows ≡ rows_of times trip) groups
-
--- the groups with one more row
-abbrev pub add_row : List (List TimeRow) → TimeRow → List (List TimeRow)
-add_row groups row = slice_set groups row.trip (slice_index_or groups row.trip [] ++ row ∷ [])
-
 -- rows of so many trips: each has some, their times are clocks, and no two of a trip have one sequence
 pub record AreTripRows (trips : ℕ) (times : List TimeRow) : Type 0 where
+  pub few_trips : trips < 2 ^ 32
   pub few : length times < 2 ^ 32
   pub clocks : All HasClocks times
   pub within : All (λ row. row.trip < trips) times

@@ -1,4 +1,5 @@
 ghost use Rattle.std.specs.Prelude.{◌≡◌, ◌^◌, ◌<◌, ◌≤◌, IfSome, MatchOption};
+ghost use Rattle.otp_model.specs.Limits.{clock_end};
 ghost use Rattle.feed_load.specs.Anchors.{AreSmall, HasClocks};
 ghost use Rattle.feed_load.specs.Calls.{GivesTimes, IsUntimed, time_in_gap};
 
@@ -43,8 +44,8 @@ pub fn time_between(left: Anchor, reached: Anchor, place: usize) -> Time
     requires after { left.place < place }
     requires before { place < reached.place }
     requires few { reached.place < 2 ^ 32 }
-    requires leaves { left.time < 3600000 }
-    requires arrives { reached.time < 3600000 }
+    requires leaves { left.time < clock_end }
+    requires arrives { reached.time < clock_end }
     ensures { result ≡ time_in_gap left.place reached.place left.time reached.time place }
 {
     let steps = (place - left.place) as i64;

@@ -1,18 +1,23 @@
-ghost use Rattle.std.specs.Prelude.{◌≡◌, ◌≤◌, IfErr, IfOk, IfSome, Err, Ok};
+ghost use Rattle.std.specs.Prelude.{◌≡◌, ◌≢◌, ◌≤◌, IfErr, IfOk, IfSome, Err, codes};
+ghost use Rattle.std.specs.List.{All, AllPairs};
 ghost use Rattle.otp_base.specs.Faults.{Rose};
+ghost use Rattle.otp_model.specs.FeedFaults.{IsFault, fault_at};
 ghost use Rattle.otp_model.specs.Ranges.{AreOptionsInRange};
 ghost use Rattle.otp_model.specs.Rows.{AreTables};
 ghost use Rattle.otp_model.specs.Sound.{IsSound};
-ghost use Rattle.gtfs_links.specs.Linked.{linked_of};
 ghost use Rattle.gtfs_links.specs.Resolved.{IsResolved};
 ghost use Rattle.gtfs_tables.specs.Feed.{tables_of};
-ghost use Rattle.feed_load.specs.Loaded.{IsFaultOf, IsFeedOf, IsLinkedFaultOf, IsLoaded, Loads};
+ghost use Rattle.feed_load.specs.Loaded.{IfTold, IsFeedOf, IsLinkedFault, IsLoaded, IsTablesFault, Loads, trip_fault};
+ghost use Rattle.feed_load.specs.Runs.{IsEarlier, IsSoundDay};
 
-use crate::linked_runs::{linked_runs, too_many};
+use crate::limits::{runs_within, too_many};
+use crate::service_day::{ServiceDay, days_of};
+use crate::trip_calls::TripFault;
+use crate::trips::calls_by_trip;
 use gtfs_links::{Linked, link};
 use gtfs_tables::read_tables;
 use otp_base::Folder;
-use otp_model::{Edges, Feed, FeedFault, Options, Tables};
+use otp_model::{Edges, Feed, FeedCause, FeedFault, FeedFile, Options, Tables};
 use std::alloc::Global;
 use walk_table::{EdgesFault, edges};
 
@@ -25,7 +30,7 @@ pub struct Loaded {
 }
 
 /// Loads the feed of a folder over the days of the options: its stops and trips, a run for each trip and day
-/// on which its service runs, and the edges between its stops.
+/// on which its service runs, or for each of its starts by `frequencies.txt`, and the edges between its stops.
 ///
 /// # Errors
 ///
@@ -49,68 +54,113 @@ pub fn load<F: Folder>(
     ensures cause { result ≡ Err FeedFault.Read → Rose (F.faults folder.old) (F.faults folder.new) }
 {
     match read_tables(alloc, folder, path) {
-        Ok(tables) => load_tables(alloc, &tables, options),
+        Ok(tables) => load_tables(alloc, tables, options),
         Err(fault) => Err(fault),
     }
 }
 
-/// Loads the feed that tables spell.
-fn load_tables(alloc: Global, tables: &Tables, options: &Options) -> Result<Loaded, FeedFault>
-    requires tables { AreTables tables.now }
+/// Loads the feed that tables spell. They are let go as soon as they are linked.
+fn load_tables(alloc: Global, tables: Tables, options: &Options) -> Result<Loaded, FeedFault>
+    requires tables { AreTables tables }
     requires options { AreOptionsInRange options.now }
-    ensures feed { IfOk result (IsFeedOf options.now tables.now) }
+    ensures feed { IfOk result (IsFeedOf options.now tables) }
     ensures sound { IfOk result (λ loaded. IsSound loaded.feed) }
-    ensures fault { IfErr result (IsFaultOf options.now tables.now) }
+    ensures fault { IfErr result (IfTold (IsTablesFault options.now tables)) }
+    ensures reads_nothing { IfErr result (λ fault. fault ≢ FeedFault.Read) }
 {
-    match link(
+    let linked = match link(
         alloc,
-        tables,
+        &tables,
         options.zone_name.as_str(),
         options.profile.scale,
     ) {
-        Ok(linked) => load_linked(alloc, tables, linked, options),
-        Err(fault) => Err(fault),
-    }
+        Ok(linked) => linked,
+        Err(fault) => return Err(fault),
+    };
+    let Ok(days) = days_of(alloc, &tables, options) else {
+        return Err(FeedFault::Memory);
+    };
+    drop(tables);
+    load_linked(alloc, linked, &days, options)
 }
 
-/// Loads the feed of linked tables.
+/// Loads the feed of linked tables over the days.
 fn load_linked(
     alloc: Global,
-    tables: &Tables,
     linked: Linked,
+    days: &[ServiceDay],
     options: &Options,
 ) -> Result<Loaded, FeedFault>
-    requires tables { AreTables tables.now }
     requires options { AreOptionsInRange options.now }
     requires resolved { IsResolved linked }
-    ensures loaded { IfOk result (IsLoaded options.now tables.now linked) }
+    requires days { All IsSoundDay days.now }
+    requires rise { AllPairs IsEarlier days.now }
+    ensures loaded { IfOk result (IsLoaded options.now days.now linked) }
     ensures sound { IfOk result (λ loaded. IsSound loaded.feed) }
-    ensures fault { IfErr result (IsLinkedFaultOf options.now tables.now linked) }
+    ensures fault { IfErr result (IfTold (IsLinkedFault options.now days.now linked)) }
+    ensures reads_nothing { IfErr result (λ fault. fault ≢ FeedFault.Read) }
 {
-    let runs = match linked_runs(alloc, tables, &linked, options) {
+    let Linked {
+        stops,
+        trips,
+        times,
+        transfers,
+        passed,
+        headways,
+    } = linked;
+    let calls = match calls_by_trip(alloc, trips.len(), times) {
+        Ok(calls) => calls,
+        Err(fault) => return Err(of_feed(alloc, fault)),
+    };
+    let runs = match runs_within(
+        alloc,
+        stops.len(),
+        trips.as_slice(),
+        &calls,
+        headways.as_slice(),
+        days,
+    ) {
         Ok(runs) => runs,
         Err(fault) => return Err(fault),
     };
+    drop(calls);
     let walks = match edges(
         alloc,
-        linked.stops.as_slice(),
-        linked.transfers.as_slice(),
+        stops.as_slice(),
+        transfers.as_slice(),
         &options.profile,
     ) {
         Ok(walks) => walks,
-        Err(EdgesFault::TooMany) => return Err(too_many(alloc, 8)),
+        Err(EdgesFault::TooMany) => return Err(too_many(alloc, FeedFile::Transfers)),
         Err(EdgesFault::Memory) => return Err(FeedFault::Memory),
     };
     Ok(Loaded {
         feed: Feed {
-            stops: linked.stops,
-            trips: linked.trips,
+            stops,
+            trips,
             runs,
             zone: options.zone,
             first_day: options.first_day,
             days: options.days,
         },
         edges: walks.edges,
-        passed: linked.passed + walks.passed,
+        passed: passed + walks.passed,
     })
+}
+
+/// The fault of a trip, as one of the feed.
+fn of_feed(alloc: Global, fault: TripFault) -> FeedFault
+    ensures { IsFault result (trip_fault fault) }
+{
+    match fault {
+        TripFault::NoTimes { row } => time_fault(alloc, FeedCause::NoTimes, row),
+        TripFault::TimesFall { row } => time_fault(alloc, FeedCause::TimesFall, row),
+        TripFault::Memory => FeedFault::Memory,
+    }
+}
+
+fn time_fault(alloc: Global, cause: FeedCause, row: u64) -> FeedFault
+    ensures { IsFault result (fault_at cause FeedFile.StopTimes row (codes "arrival_time")) }
+{
+    FeedFault::at(alloc, cause, FeedFile::StopTimes, row, "arrival_time")
 }

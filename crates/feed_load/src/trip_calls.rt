@@ -1,6 +1,7 @@
 ghost use Rattle.std.specs.Prelude.{◌≡◌, ◌↔◌, ℕ, ◌+◌, ◌-◌, ◌<◌, min, length, IfOk, IfErr, IsTrue, MatchOption};
 ghost use Rattle.feed_load.specs.Anchors.{AreEnds, AreRows, IsLeft, IsReached};
-ghost use Rattle.feed_load.specs.Calls.{AreCallsOf, EachAt, FallsAt, FallsFirstAt, IsCallAt, IsCallOf};
+ghost use Rattle.otp_base.specs.EachAt.{EachAt};
+ghost use Rattle.feed_load.specs.Calls.{AreCallsOf, FallsAt, FallsFirstAt, IsCallAt, IsCallOf};
 ghost use Rattle.feed_load.specs.Trips.{AreGoodCalls, IsTripFault};
 
 use crate::gap::{Anchor, given_times, time_between};
@@ -85,7 +86,7 @@ fn filled(alloc: Global, rows: &[TimeRow], ends: Ends) -> Result<Vec<Call>, Memo
         place: 0,
         time: ends.departure,
     };
-    let mut calls = Vec::new(alloc);
+    let mut calls = Vec::with_capacity(alloc, rows.len())?;
     for place in 0..rows.len() {
         let call = call_at(rows, place, left, reached[rows.len() - 1 - place]);
         left = left_after(rows, place, left);
@@ -105,7 +106,7 @@ fn reached_from_each(alloc: Global, rows: &[TimeRow], arrival: u32) -> Result<Ve
         place: rows.len() - 1,
         time: arrival,
     };
-    let mut list = Vec::new(alloc);
+    let mut list = Vec::with_capacity(alloc, rows.len())?;
     for k in 0..rows.len() {
         nearest = reached_from(rows, rows.len() - 1 - k, nearest);
         list.push(nearest)?;

@@ -3,4 +3,4 @@ use Rattle.feed_load.proofs.runs.call_from.Goals as goal
 
 pub returns : goal.returns
 returns c =
-    rw (time_from c.args.start c.args.call.now.arrival c.requires.start c.requires.clocks.arrival, time_from c.args.start c.args.call.now.departure c.requires.start c.requires.clocks.departure)
+    rw (time_from c.args.instant c.args.call.now.arrival c.requires.instant c.requires.clocks.arrival, time_from c.args.instant c.args.call.now.departure c.requires.instant c.requires.clocks.departure)

@@ -3,7 +3,7 @@ use Rattle.std.proofs.lemmas.List.{length_push}
 use Rattle.feed_load.specs.declared.gap.Anchor.{Anchor}
 use Rattle.feed_load.specs.Anchors.{IsReached}
 use Rattle.feed_load.specs.Calls.{IsCallAt}
-use Rattle.feed_load.proofs.EachFacts.{each_push, each_read}
+use Rattle.otp_base.proofs.EachAtLemmas.{each_push, each_read}
 use Rattle.feed_load.proofs.trip_calls.filled.Goals as goal
 
 pub call_at-call-requires-clause-reached : goal.call_at-call-requires-clause-reached

@@ -1,6 +1,7 @@
 use Rattle.std.proofs.Common.{◌≡◌, length}
 use Rattle.feed_load.specs.Anchors.{IsLeft}
-use Rattle.feed_load.specs.Calls.{EachAt, IsCallAt}
+use Rattle.otp_base.specs.EachAt.{EachAt}
+use Rattle.feed_load.specs.Calls.{IsCallAt}
 use Rattle.feed_load.proofs.trip_calls.filled.Given as goal
 
 abbrev pub invariant-loop-place : goal.invariant-loop-place

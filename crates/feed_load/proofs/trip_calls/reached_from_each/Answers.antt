@@ -2,7 +2,7 @@ use Rattle.std.proofs.Common.{◌≡◌, ℕ, ◌+◌, ◌-◌, length, min, sub
 use Rattle.std.proofs.lemmas.List.{length_push}
 use Rattle.feed_load.specs.declared.gap.Anchor.{Anchor}
 use Rattle.feed_load.specs.Anchors.{IsReached}
-use Rattle.feed_load.proofs.EachFacts.{each_push}
+use Rattle.otp_base.proofs.EachAtLemmas.{each_push}
 use Rattle.feed_load.proofs.trip_calls.reached_from_each.Goals as goal
 
 pub loop-k-preserved : goal.loop-k-preserved

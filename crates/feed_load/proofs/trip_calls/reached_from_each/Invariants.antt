@@ -1,6 +1,6 @@
 use Rattle.std.proofs.Common.{◌≡◌, ◌-◌, length, min}
 use Rattle.feed_load.specs.Anchors.{IsReached}
-use Rattle.feed_load.specs.Calls.{EachAt}
+use Rattle.otp_base.specs.EachAt.{EachAt}
 use Rattle.feed_load.proofs.trip_calls.reached_from_each.Given as goal
 
 abbrev pub invariant-loop-k : goal.invariant-loop-k
