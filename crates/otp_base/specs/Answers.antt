@@ -1,6 +1,6 @@
 -- What a call answered, beside what its definition gives. An answer may be want of memory, of which no
 -- definition speaks: `told` gives the fault that an answer's error tells, or none where it tells nothing.
-use Rattle.std.specs.Prelude.{◌≡◌, IfSome, Option, Some, None, Result, Ok, Err}
+use Rattle.std.specs.Prelude.{◌≡◌, IfSome, Option, Result, Ok, Err}
 
 -- the fault that was told, if one was, is what the definition gives
 abbrev pub GivesFault : {Y F : Type 0} → Option F → Result Y F → Type 0

@@ -1,16 +1,16 @@
 -- The order of names is total, and names that compare alike are one.
-use Rattle.std.proofs.Common.{◌≡◌, ℕ, List, [], ◌∷◌, Option, Some, None, refl, ap, sym, ◌∙◌, subst}
+use Rattle.std.proofs.Common.{◌≡◌, ℕ, List, [], ◌∷◌, Option, Some, None, refl, ap}
 use Rattle.std.specs.Cmp.{IsTotalOrder}
 use Rattle.std.specs.Cmp.Lexicographic.{options_total, slice_cmp}
 use Rattle.std.specs.Option.{option_cmp}
-use Rattle.std.specs.Ordering.{int_cmp, nat_cmp, ordering_then}
+use Rattle.std.specs.Ordering.{nat_cmp}
 use Rattle.std.specs.declared.cmp.Ordering.{Ordering}
 use Rattle.std.specs.declared.cmp.Ordering.TheVariants.{Less, Equal, Greater}
 use Rattle.std.proofs.lemmas.Cmp.{then_total, on_total, int_cmp_total, nat_cmp_total, nat_list_cmp_total}
 use Rattle.otp_model.specs.declared.run_name.RunName.{RunName}
 use Rattle.otp_model.specs.declared.run_name.TripName.{TripName}
 use Rattle.otp_model.specs.declared.run_name.TripName.TheVariants.{Planned, Added}
-use Rattle.otp_model.specs.Names.{IsNameBelow, kind_of, number_of, run_name_cmp, text_of}
+use Rattle.otp_model.specs.Names.{kind_of, number_of, run_name_cmp, text_of}
 use Rattle.otp_model.proofs.Values.{int_equal, nat_equal, then_equal}
 
 pub run_name_cmp_total : IsTotalOrder run_name_cmp

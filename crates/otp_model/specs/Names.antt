@@ -1,6 +1,6 @@
 -- The names of runs and their order: planned ones by day, then by trip, then by start, that without a start
 -- first; behind them the added ones, by day and then by the bytes of their text.
-use Rattle.std.specs.Prelude.{◌≡◌, ℕ, List, [], Option}
+use Rattle.std.specs.Prelude.{◌≡◌, ℕ, List, []}
 use Rattle.std.specs.Cmp.Lexicographic.{slice_cmp}
 use Rattle.std.specs.Option.{option_cmp}
 use Rattle.std.specs.Ordering.{int_cmp, nat_cmp, ordering_then}

@@ -1,6 +1,6 @@
 -- Patterns: the stops that a run calls at, with boarding and alighting there. Runs of one pattern and day are kept
 -- together, and a change of one of them touches the calls of all.
-use Rattle.std.specs.Prelude.{ℕ, List, [], ◌∷◌, ◌++◌, length, map, Bool, true, false, ◌==◌, ◌&&◌, not, if◌then◌else◌, sum_by}
+use Rattle.std.specs.Prelude.{ℕ, List, [], ◌∷◌, ◌++◌, length, map, Bool, true, false, ◌==◌, ◌&&◌, not, sum_by}
 use Rattle.std.specs.List.{filter, list_any}
 use Rattle.std.specs.Ordering.{int_eq}
 use Rattle.otp_model.specs.Resolution.{is_same_name}

@@ -4,7 +4,7 @@
 -- lacks the trip, or has the one that is to be added; 6 it has no day; 7 no run of the feed is meant, or the day of an
 -- added one is none of the horizon; 8 a delay or time is out of range, or the calls of an added run can't be told; 9 an
 -- earlier entity of the message resolved for the same name.
-use Rattle.std.specs.Prelude.{ℕ, ◌+◌, ◌<◌, ℤ, pos, ◌+ℤ◌, int_le, int_lt, List, [], ◌∷◌, ◌++◌, length, map, Option, None, Some, Result, Ok, Err, Bool, true, false, not, nat_le, ◌==◌, ◌&&◌, ◌||◌, if◌then◌else◌, count_by}
+use Rattle.std.specs.Prelude.{ℕ, ℤ, pos, ◌+ℤ◌, int_le, int_lt, List, [], ◌∷◌, length, map, Option, None, Some, Result, Ok, Err, Bool, true, false, not, nat_le, ◌==◌, ◌&&◌, ◌||◌, if◌then◌else◌, count_by}
 use Rattle.std.specs.List.{find, flat_map, list_any, position_from, range_with_len}
 use Rattle.std.specs.Option.{option_map_or, option_map}
 use Rattle.std.specs.Ordering.{is_eq}

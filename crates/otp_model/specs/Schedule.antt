@@ -1,7 +1,7 @@
 -- The schedule after a history of commits: each real-time feed is a full dataset, of which the last committed message
 -- counts, and of two feeds that speak of one run that of the greater number (FeedHeader, FULL_DATASET, in the GTFS
 -- Realtime reference; which feed wins is this project's own).
-use Rattle.std.specs.Prelude.{ℕ, suc, zero, max, List, [], ◌∷◌, ◌++◌, map, Option, None, Some, Bool, true, false, ◌==◌, if◌then◌else◌}
+use Rattle.std.specs.Prelude.{ℕ, suc, zero, max, List, [], ◌∷◌, ◌++◌, map, Option, None, Some, Bool, true, false, ◌==◌}
 use Rattle.std.specs.List.{filter, find, flat_map, range_with_len}
 use Rattle.std.specs.Option.{option_map, option_map_or}
 use Rattle.std.specs.declared.cmp.Ordering.{Ordering}

@@ -1,5 +1,5 @@
 -- What a query is answered over a feed and its edges.
-use Rattle.std.specs.Prelude.{◌≡◌, ℕ, ◌<◌, ◌≤◌, List, ◌++◌, Ok, codes}
+use Rattle.std.specs.Prelude.{◌≡◌, ℕ, ◌≤◌, List, ◌++◌, Ok, codes}
 use Rattle.otp_model.specs.declared.journey.Page.{Page}
 use Rattle.otp_model.specs.declared.journey.Request.{Request}
 use Rattle.otp_model.specs.declared.timetable.Edges.{Edges}

@@ -1,7 +1,6 @@
 -- The front of enough offers is the whole list.
-use Rattle.std.proofs.Common.{◌≡◌, ◌≢◌, Bool, true, false, List, length, get_or, refl, sym, subst, arith, ap}
+use Rattle.std.proofs.Common.{◌≡◌, Bool, true, false, List, get_or, refl, subst}
 use Rattle.std.specs.List.{Any, Contains}
-use Rattle.std.proofs.lemmas.Int.{ints}
 use Rattle.std.proofs.lemmas.List.Elements.{Contains-get_or}
 use Rattle.otp_model.specs.declared.timetable.Run.{Run}
 use Rattle.otp_model.specs.declared.timetable.Edges.{Edges}

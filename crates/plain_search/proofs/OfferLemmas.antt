@@ -1,6 +1,6 @@
 -- What is offered are all journeys.
-use Rattle.std.proofs.Common.{arith, ◌≡◌, ◌↔◌, ℕ, ℤ, pos, ◌+◌, ◌*◌, ◌<◌, ◌≤◌, ◌+ℤ◌, ◌≤ℤ◌, List, [], ◌∷◌, length, get_or, max, refl, sym, ap, subst, ◌∙◌}
-use Rattle.std.specs.List.{All, Any, Contains}
+use Rattle.std.proofs.Common.{arith, ◌≡◌, ◌↔◌, ℕ, ℤ, pos, ◌+◌, ◌*◌, ◌<◌, ◌≤◌, ◌+ℤ◌, ◌≤ℤ◌, List, [], ◌∷◌, length, get_or, refl, sym, subst, ◌∙◌}
+use Rattle.std.specs.List.{All, Contains}
 use Rattle.std.proofs.lemmas.Int.{ints}
 use Rattle.std.proofs.lemmas.List.Elements.{All-cons, All-nil, All-contains, Contains-get_or}
 use Rattle.std.proofs.lemmas.Option.{slice_get_within, get_or_from_slice_get}
@@ -18,7 +18,7 @@ use Rattle.otp_model.specs.declared.journey.Leg.TheVariants.{Walk, Ride as RideL
 use Rattle.otp_model.specs.Plane.{IsReached}
 use Rattle.otp_model.specs.Journeys.{Follows, HasValue, IsJourney, IsRide, arrival_after, rides_of}
 use Rattle.otp_model.specs.Ranges.{IsLegInRange, IsTime, IsTimely}
-use Rattle.otp_model.specs.Whole.{IsInWindow, IsNoWorse, IsOffered}
+use Rattle.otp_model.specs.Whole.{IsInWindow}
 use Rattle.otp_model.proofs.Values.{no_worse_itself, same_value}
 use Rattle.pareto_front.specs.Front.{AreEnough}
 use Rattle.walk_table.specs.declared.reach.Reach.{Reach}
@@ -26,7 +26,7 @@ use Rattle.walk_table.specs.Reaches.{AreReached}
 use Rattle.plain_search.specs.declared.rides.Ride.{Ride}
 use Rattle.plain_search.specs.Rides.{IsRideAmong}
 use Rattle.plain_search.specs.Tails.{IsLastTail, IsLongerFrom, IsTailOf}
-use Rattle.plain_search.specs.Offers.{ArrivesAfter, Boards, IsOffer, IsOfferBy, IsOfferWith, IsValued}
+use Rattle.plain_search.specs.Offers.{Boards, IsOffer, IsOfferBy, IsOfferWith, IsValued}
 use Rattle.plain_search.proofs.TailLemmas.{tail_from_last, last_from_tail, tail_from_longer, longer_from_tail}
 
 -- ---- the one offer of a walk and a tail

@@ -37,7 +37,12 @@ fn add_rides_in(alloc: Global, run: &Run, rides: &mut Vec<Ride>) -> Result<(), M
 }
 
 /// Adds the rides of a run that board at a place.
-fn add_rides_from(alloc: Global, run: &Run, from: usize, rides: &mut Vec<Ride>) -> Result<(), Memory>
+fn add_rides_from(
+    alloc: Global,
+    run: &Run,
+    from: usize,
+    rides: &mut Vec<Ride>,
+) -> Result<(), Memory>
     requires { from < length run.now.calls }
     ensures { OnOk result (Adds (IsRideFrom run.now from) rides.old.items rides.new.items) }
 {
@@ -49,12 +54,7 @@ fn add_rides_from(alloc: Global, run: &Run, from: usize, rides: &mut Vec<Ride>) 
 }
 
 /// The ride from one call of a run to a later one, if both are allowed.
-fn ride_between(
-    alloc: Global,
-    run: &Run,
-    from: usize,
-    to: usize,
-) -> Result<Option<Ride>, Memory>
+fn ride_between(alloc: Global, run: &Run, from: usize, to: usize) -> Result<Option<Ride>, Memory>
     requires before { from < to }
     requires within { to < length run.now.calls }
     ensures { IfOk result (IsOnly (IsRideBetween run.now from to)) }

@@ -1,7 +1,8 @@
 use crate::all_best;
 use otp_base::{List, Text};
 use otp_model::{
-    Call, Edge, Edges, Found, Leg, Place, Profile, Request, Run, RunName, Stop, StopNo, TripName, Value,
+    Call, Edge, Edges, Found, Leg, Place, Profile, Request, Run, RunName, Stop, StopNo, TripName,
+    Value,
 };
 use std::alloc::Global;
 use std::cmp::Ordering;

@@ -1,4 +1,4 @@
-use Rattle.std.proofs.Common.{◌≡◌, true, sym, ◌∙◌, arith}
+use Rattle.std.proofs.Common.{sym, ◌∙◌}
 use Rattle.otp_base.proofs.NumberLemmas.{digits_are_text}
 use Rattle.otp_base.proofs.digits.number_of_bytes.Goals as goal
 

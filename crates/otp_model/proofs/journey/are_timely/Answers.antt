@@ -1,4 +1,4 @@
-use Rattle.std.proofs.Common.{rules, ◌≡◌, ℕ, ◌+◌, ◌<◌, get_or, subst, sym, arith, inl, inr}
+use Rattle.std.proofs.Common.{rules, ◌≡◌, ℕ, get_or, subst, sym, arith, inl, inr}
 use Rattle.std.proofs.lemmas.Bool.{cases_lt}
 use Rattle.std.proofs.lemmas.List.{get_or_read}
 use Rattle.otp_model.specs.declared.timetable.Run.{Run}

@@ -1,4 +1,4 @@
-use Rattle.std.proofs.Common.{◌≡◌, List, ap, length, subst, rules, arith}
+use Rattle.std.proofs.Common.{List, ap, length, subst, rules, arith}
 use Rattle.otp_model.specs.Plane.{IsPlaceOf}
 use Rattle.otp_model.specs.declared.timetable.Stop.{Stop}
 use Rattle.otp_model.proofs.journey.Request.can_search.Goals as goal
