@@ -125,7 +125,7 @@ module _ (zone : List ℕ) (tables : Tables) (fine : fault_of zone tables ≡ No
     trips = h.trips ∙ sighted_once id_of_trip tables.trips trips_apart;
     apart = trips_apart;
     called = times_known;
-    repeated = frequencies_known;
+    started = frequencies_known;
   }
 
 or_none : (found : Option FeedFault) (linked : Linked) → found ≡ None → linked_or found linked ≡ Ok linked

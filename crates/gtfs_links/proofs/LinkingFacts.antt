@@ -45,7 +45,7 @@ module _ (tables : Tables) (ix : Indexes) (n : AreNumbers tables ix) where
       pub headways_placed : EachAt (IsPlacedIn (kept_ids tables) trip_of_frequency numbers.frequencies kept) tables.frequencies
       headways_placed =
           are_placed trip_of_frequency (is_kept tables.stop_times) tables.trips counts kept numbers.frequencies tables.frequencies n.apart many told k
-          (m.frequencies ∙ ap (λ (trips : List (List ℕ)). numbers_in trips trip_of_frequency tables.frequencies) n.trips) n.repeated
+          (m.frequencies ∙ ap (λ (trips : List (List ℕ)). numbers_in trips trip_of_frequency tables.frequencies) n.trips) n.started
 
   pub feed_is : (scale : ℕ) (stops : List Stop) (trips : List Trip) (times : List TimeRow) (transfers : List TransferRow) (passed : ℕ) (headways : List HeadwayRow)
       → stops ≡ map (stop_at scale ix.stops) tables.stops

@@ -1,10 +1,11 @@
 -- Which trips are kept, by number.
-use Rattle.std.specs.Prelude.{◌≡◌, ℕ, ◌<◌, ◌&&◌, List, length, take, Bool, not, Option, Some, None, nat_eq, nat_le, count_by, if◌then◌else◌, slice_get, slice_index}
+use Rattle.std.specs.Prelude.{◌≡◌, ℕ, ◌<◌, ◌&&◌, List, length, map, take, Bool, not, Option, Some, None, nat_eq, nat_le, count_by, if◌then◌else◌, slice_get, slice_index}
 use Rattle.otp_model.specs.Sights.{has_name, place_of}
 use Rattle.otp_base.specs.EachAt.{EachAt}
 use Rattle.otp_model.specs.declared.links.TimeRow.{TimeRow}
 use Rattle.otp_model.specs.declared.tables.StopRow.{StopRow}
 use Rattle.otp_model.specs.declared.tables.StopTimeRow.{StopTimeRow}
+use Rattle.otp_model.specs.declared.tables.TripRow.{TripRow}
 use Rattle.gtfs_links.specs.Linked.{may}
 use Rattle.gtfs_links.specs.Rules.{is_empty}
 
@@ -35,6 +36,10 @@ IsPlacedAs number numbers kept place = (trip : ℕ) × (slice_get numbers place 
 -- the trip that a row names has the new number that it has among these names
 abbrev pub IsPlacedIn : {R : Type 0} → List (List ℕ) → (R → List ℕ) → List ℕ → List (Option ℕ) → ℕ → R → Type 0
 IsPlacedIn names id_of numbers kept place row = IsPlacedAs (number_in names (id_of row)) numbers kept place
+
+-- the test passes the trips with at least two calls, where so many are counted for each
+abbrev pub TellsKept : List ℕ → List TripRow → (TripRow → Bool) → Type 0
+TellsKept counts rows is_kept = map (nat_le 2) counts ≡ map is_kept rows
 
 pub record AreKeptNumbers (counts : List ℕ) (numbers : List (Option ℕ)) : Type 0 where
   pub same_length : length numbers ≡ length counts

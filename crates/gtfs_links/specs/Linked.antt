@@ -60,7 +60,7 @@ pub record AreNumbers (tables : Tables) (indexes : Indexes) : Type 0 where
   pub trips : indexes.trips ≡ trip_ids tables
   pub apart : AllPairs IsOtherTrip tables.trips
   pub called : All (HasId (trip_ids tables) trip_of_time) tables.stop_times
-  pub repeated : All (HasId (trip_ids tables) trip_of_frequency) tables.frequencies
+  pub started : All (HasId (trip_ids tables) trip_of_frequency) tables.frequencies
 
 -- the number of the record that a field names, where it names one
 abbrev pub number_if : List (List ℕ) → List ℕ → Option ℕ

@@ -40,7 +40,7 @@ pub record IsResolvedTransfer (stops : ℕ) (row : TransferRow) : Type 0 where
   pub kind : row.kind ≤ 5
   pub minimum : row.minimum < 10 ^ 9
 
--- times of departure of one of so many trips, of which each follows the last after a time
+-- a row of `frequencies.txt` of one of so many trips: from one time of day to another, with some seconds from start to start
 pub record IsResolvedHeadway (trips : ℕ) (row : HeadwayRow) : Type 0 where
   pub trip : row.trip < trips
   pub start : row.start < clock_end

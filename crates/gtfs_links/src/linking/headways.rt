@@ -4,7 +4,7 @@ ghost use Rattle.gtfs_links.specs.Index.{trip_of_frequency};
 ghost use Rattle.gtfs_links.specs.Kept.{IsPlacedIn};
 ghost use Rattle.gtfs_links.specs.Linked.{headways_of, kept_ids};
 
-use super::kept::number_at;
+use super::kept::new_number;
 use crate::feed::HeadwayRow;
 use crate::numbers::Numbers;
 use otp_base::{List, Memory};
@@ -24,7 +24,7 @@ pub fn linked_headways(
     let trips = numbers.frequencies.as_slice();
     let mut headways = List::new(alloc);
     for (place, row) in tables.frequencies.as_slice().iter().enumerate() {
-        if let Some(trip) = number_at(kept, trips, place) {
+        if let Some(trip) = new_number(kept, trips, place) {
             headways.push(HeadwayRow {
                 trip,
                 start: row.start_time,

@@ -1,8 +1,8 @@
-ghost use Rattle.std.specs.Prelude.{◌≡◌, ◌<◌, ◌≤◌, ◌^◌, ℕ, Bool, Option, IfOk, length, map, nat_le};
+ghost use Rattle.std.specs.Prelude.{◌≡◌, ◌<◌, ◌≤◌, ◌^◌, ℕ, Bool, Option, IfOk, length, map};
 ghost use Rattle.std.specs.List.{filter};
 ghost use Rattle.otp_model.specs.Limits.{most_records};
 ghost use Rattle.otp_model.specs.declared.tables.TripRow.{TripRow as TripValue};
-ghost use Rattle.gtfs_links.specs.Kept.{AreKeptNumbers, IsPlacedAs};
+ghost use Rattle.gtfs_links.specs.Kept.{AreKeptNumbers, IsPlacedAs, TellsKept};
 ghost use Rattle.gtfs_links.specs.Linked.{trip_at};
 
 use crate::indexes::Indexes;
@@ -32,7 +32,7 @@ pub fn kept_numbers(alloc: Global, counts: &[u32]) -> Result<List<Option<TripNo>
 }
 
 /// The new number of the trip at a place of these numbers, if it is kept.
-pub fn number_at(kept: &[Option<TripNo>], trips: &[u32], place: usize) -> Option<TripNo>
+pub fn new_number(kept: &[Option<TripNo>], trips: &[u32], place: usize) -> Option<TripNo>
     requires { (number : Option ℕ) × IsPlacedAs number trips.now kept.now place }
     ensures { (number : Option ℕ) → IsPlacedAs number trips.now kept.now place → result ≡ number }
 {
@@ -49,7 +49,8 @@ pub fn kept_trips(
     requires routes { length indexes.now.routes < 2 ^ 32 }
     requires services { length indexes.now.services < 2 ^ 32 }
     requires counts { length counts.now ≡ length rows.now }
-    ensures { (is_kept : TripValue → Bool) → map (nat_le 2) counts.now ≡ map is_kept rows.now → IfOk result (λ trips. trips ≡ map (trip_at indexes.now.routes indexes.now.services) (filter is_kept rows.now)) }
+    ensures { (is_kept : TripValue → Bool) → TellsKept counts.now rows.now is_kept
+        → IfOk result (λ trips. trips ≡ map (trip_at indexes.now.routes indexes.now.services) (filter is_kept rows.now)) }
 {
     let mut trips = List::new(alloc);
     for (place, row) in rows.iter().enumerate() {

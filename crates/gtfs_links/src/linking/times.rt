@@ -6,7 +6,7 @@ ghost use Rattle.gtfs_links.specs.Keys.{numbers_in};
 ghost use Rattle.gtfs_links.specs.Linked.{kept_ids, may, stop_ids, times_of};
 
 use super::calls::is_unnamed;
-use super::kept::number_at;
+use super::kept::new_number;
 use crate::numbers::Numbers;
 use otp_base::{List, Memory, push_some};
 use otp_model::{StopNo, StopRow, StopTimeRow, Tables, TimeRow, TripNo};
@@ -28,7 +28,7 @@ pub fn linked_times(
     let stops = numbers.stops.as_slice();
     let mut times = Vec::with_capacity(alloc, rows.len())?;
     for (place, row) in rows.iter().enumerate() {
-        let trip = number_at(kept, trips, place);
+        let trip = new_number(kept, trips, place);
         let time = linked_time(
             tables.stops.as_slice(),
             place as u64 + 1,

@@ -5,8 +5,8 @@ use Rattle.gtfs_links.proofs.KeptFacts.{left_out_more, number_found, number_miss
 use Rattle.gtfs_links.proofs.linking.headways.linked_headways.Goals as goal
 use Rattle.gtfs_links.proofs.linking.headways.linked_headways.Goals.{in-Some+in_ok-push, in_default}
 
-pub number_at-requires : goal.number_at-requires
-number_at-requires c =
+pub new_number-requires : goal.new_number-requires
+new_number-requires c =
     let tables = c.args.tables.now in
     let row = c.row-item.result in
     let read = read_row tables.frequencies c.as_slice-row-items.result.now c.loop-place.place row c.as_slice-row-items.ensures (omega arith) c.row-item.is in
@@ -20,8 +20,8 @@ loop-place-preserved c =
     let i = c.loop-place.place in
     let row = c.row-item.result in
     let read = read_row rows c.as_slice-row-items.result.now i row c.as_slice-row-items.ensures (omega arith) c.row-item.is in
-    let trip = c.number_at.ensures (number_in kept row.trip_id) (rw c.as_slice-trips.ensures (c.requires i row read.2)) in
-    elim c.match-number_at.branch [
+    let trip = c.new_number.ensures (number_in kept row.trip_id) (rw c.as_slice-trips.ensures (c.requires i row read.2)) in
+    elim c.match-new_number.branch [
       | in-Some+in_ok-push w ↦
           let found = number_found kept row.trip_id w.in-Some.trip (sym w.in-Some.is ∙ trip) in
           rw w.headways-is (passed_more (headway_at kept) (is_headway_of kept) rows i row c.loop-place.headways w.push.new.self _ read.0 read.1 found.0 (rw found.1 at w.in_ok-push.ensures.ok) c.loop-place.invariant)

@@ -7,8 +7,8 @@ use Rattle.gtfs_links.proofs.KeyFacts.{number_is}
 use Rattle.gtfs_links.proofs.TimeFacts.{time_is, times_done, times_more}
 use Rattle.gtfs_links.proofs.linking.times.linked_times.Goals as goal
 
-pub number_at-trip-requires : goal.number_at-trip-requires
-number_at-trip-requires c =
+pub new_number-trip-requires : goal.new_number-trip-requires
+new_number-trip-requires c =
     let tables = c.args.tables.now in
     let row = c.index-rows-place.result in
     let read = read_row tables.stop_times c.as_slice-rows.result.now c.loop-place.place row c.as_slice-rows.ensures (omega arith) c.index-rows-place.is in
@@ -23,7 +23,7 @@ loop-place-preserved c =
     let i = c.loop-place.place in
     let row = c.index-rows-place.result in
     let read = read_row rows c.as_slice-rows.result.now i row c.as_slice-rows.ensures (omega arith) c.index-rows-place.is in
-    let trip = c.number_at-trip.ensures (number_in kept row.trip_id) (rw c.as_slice-trips.ensures (c.requires.trips i row read.2)) in
+    let trip = c.new_number-trip.ensures (number_in kept row.trip_id) (rw c.as_slice-trips.ensures (c.requires.trips i row read.2)) in
     let stop = number_is ids stop_of_time c.args.numbers.now.stops rows i row c.requires.stops read.0 read.1 in
     let time = rw (c.as_slice.ensures, trip, c.as_slice-stops.ensures, stop, time_is tables.stops ids kept (i + 1) row) at c.linked_time-time.ensures in
     times_more tables.stops ids kept rows i row c.loop-place.times.items c.push_some.new.list.items _ read.0 read.1 (rw time at c.in_ok-push_some.ensures) c.loop-place.invariant
