@@ -4,8 +4,8 @@ use crate::offline::run_offline;
 use crate::status::Status;
 use otp_base::{List, MemoryFolder, MemorySink};
 use replies::{
-    BEHIND_MIDNIGHT, BETWEEN_TIMES, BOTH, BY_RIDE, BY_STARTS, EARLIER_TRIP, FIRST_PAGE,
-    FROM_A_POINT, NOTHING, SECOND_PAGE,
+    BEFORE_THE_DAY, BEHIND_MIDNIGHT, BETWEEN_TIMES, BOTH, BY_RIDE, BY_STARTS, EARLIER_TRIP,
+    FIRST_PAGE, FROM_A_POINT, NOTHING, SECOND_PAGE, START_BEHIND_MIDNIGHT,
 };
 use std::alloc::Global;
 use std::process::Abort;
@@ -27,7 +27,7 @@ struct Case {
 }
 
 /// `check f` over the feed with one file changed.
-const CHECKS: [(&str, &str, Status, &str); 12] = [
+const CHECKS: [(&str, &str, Status, &str); 13] = [
     ("", "", Status::Done, COUNTS),
     // A byte order mark, and a field in quotes.
     (
@@ -128,10 +128,21 @@ T1,8:00:00,10:00:00,600
         Status::Feed,
         "feed 7 frequencies.txt 2 start_time\n",
     ),
+    // Starts that two rows give count once; a row that ends when it starts gives none.
+    (
+        "f/frequencies.txt",
+        "trip_id,start_time,end_time,headway_secs
+T1,08:00:00,09:00:00,1200
+T1,08:20:00,09:20:00,1200
+T2,08:00:00,08:00:00,60
+",
+        Status::Done,
+        "stops=4 trips=3 runs=5 calls=14 passed=0\n",
+    ),
 ];
 
 /// Commands over the feed with some files changed.
-const PLANS: [Case; 22] = [
+const PLANS: [Case; 24] = [
     Case {
         changes: &[],
         line: "plan f from=stop:A&to=stop:D&time=1714981600&window=1800&page=1",
@@ -319,6 +330,39 @@ T1,08:00:00,09:00:00,1200
         line: "plan f from=stop:A&to=stop:D&time=1714981600&window=3600",
         status: Status::Done,
         output: BY_STARTS,
+    },
+    // The first arrival is moved to before the day of service.
+    Case {
+        changes: &[
+            SampleFile {
+                name: "f/stop_times.txt",
+                text: "trip_id,arrival_time,departure_time,stop_id,stop_sequence
+T1,07:50:00,08:00:00,A,1
+T1,08:40:00,08:40:00,D,3
+",
+            },
+            SampleFile {
+                name: "f/frequencies.txt",
+                text: "trip_id,start_time,end_time,headway_secs
+T1,00:05:00,00:06:00,60
+",
+            },
+        ],
+        line: "plan f from=stop:A&to=stop:D&time=1714953600&window=600",
+        status: Status::Done,
+        output: BEFORE_THE_DAY,
+    },
+    // The second start stands behind midnight.
+    Case {
+        changes: &[SampleFile {
+            name: "f/frequencies.txt",
+            text: "trip_id,start_time,end_time,headway_secs
+T1,23:50:00,24:10:00,600
+",
+        }],
+        line: "plan f from=stop:A&to=stop:D&time=1715040000&window=600",
+        status: Status::Done,
+        output: START_BEHIND_MIDNIGHT,
     },
 ];
 

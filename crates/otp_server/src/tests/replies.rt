@@ -158,3 +158,27 @@ pub const BY_STARTS: &str = r#"
           "rides": 1}],
      "more": false, "moved": false, "next": "v1-0-1714984800-1714987200-1-300000"}
 "#;
+
+/// A start five minutes after the day begins.
+pub const BEFORE_THE_DAY: &str = r#"
+    {"behind": false, "commit": 0, "direct": null, "journeys": [
+         {"arrival": 1714956300, "cost": 300000, "departure": 1714953900, "legs": [
+            {"kind": "walk", "seconds": 0},
+            {"alight": {"seq": 3, "stop": "D", "time": 1714956300}, "board": {"seq": 1, "stop": "A", "time": 1714953900},
+             "date": "20240506", "kind": "ride", "start": "00:05:00", "trip": "T1"},
+            {"kind": "walk", "seconds": 0}],
+          "rides": 1}],
+     "more": false, "moved": false, "next": "v1-0-1714953900-1714956300-1-300000"}
+"#;
+
+/// A start of the day before.
+pub const START_BEHIND_MIDNIGHT: &str = r#"
+    {"behind": false, "commit": 0, "direct": null, "journeys": [
+         {"arrival": 1715042400, "cost": 300000, "departure": 1715040000, "legs": [
+            {"kind": "walk", "seconds": 0},
+            {"alight": {"seq": 3, "stop": "D", "time": 1715042400}, "board": {"seq": 1, "stop": "A", "time": 1715040000},
+             "date": "20240506", "kind": "ride", "start": "24:00:00", "trip": "T1"},
+            {"kind": "walk", "seconds": 0}],
+          "rides": 1}],
+     "more": false, "moved": false, "next": "v1-0-1715040000-1715042400-1-300000"}
+"#;
