@@ -3,6 +3,7 @@ pub mod AmongFacts
 pub mod ChainLemmas
 pub mod CountFacts
 pub mod GapFacts
+pub mod JoinLemmas
 pub mod LinkedFacts
 pub mod MarkLemmas
 pub mod NumberLemmas

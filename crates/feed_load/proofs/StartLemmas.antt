@@ -6,7 +6,7 @@ use Rattle.std.proofs.lemmas.Bool.{and_from, false_from_ne_true, cases_eq, eq-eq
 use Rattle.gtfs_links.specs.declared.feed.HeadwayRow.{HeadwayRow}
 use Rattle.feed_load.specs.Starts.{IsStartOf, is_start_of}
 
-bool_same : (a b : Bool) → (a ≡ true → b ≡ true) → (b ≡ true → a ≡ true) → a ≡ b
+pub bool_same : (a b : Bool) → (a ≡ true → b ≡ true) → (b ≡ true → a ≡ true) → a ≡ b
 bool_same true true there back = refl
 bool_same false false there back = refl
 bool_same true false there back = let never : false ≡ true = there refl in absurd (cc never)
@@ -40,7 +40,7 @@ start_passes time row h =
 next_turn : (turns headway : ℕ) → (turns + 1) * headway ≡ turns * headway + headway
 next_turn turns headway = grind arith
 
-before_turn : (few many headway : ℕ) → 0 < headway → few < many → few * headway < many * headway
+pub before_turn : (few many headway : ℕ) → 0 < headway → few < many → few * headway < many * headway
 before_turn few many headway some less = grind arith
 
 -- the row up to so many of its starts

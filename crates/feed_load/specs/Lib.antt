@@ -1,6 +1,7 @@
 pub mod ByTrip
 pub mod Marks
 pub mod Starts
+pub mod Joins
 pub mod Calls
 pub mod Anchors
 pub mod Trips

@@ -47,23 +47,22 @@ impl TripIndex {
         requires within { All (λ row. R.trip_of row < trips) rows.now }
         ensures { IfOk result (IsIndexTo R.trip_of trips rows.now (length rows.now)) }
     {
-        let mut index = TripIndex::of_none(alloc, trips)?;
+        let mut index = TripIndex::of_none(alloc, trips, rows.len())?;
         for row in rows {
             index.note(row.trip())?;
         }
         Ok(index)
     }
 
-    fn of_none(alloc: Global, trips: usize) -> Result<TripIndex, Memory>
+    /// An index without rows, with room for so many.
+    fn of_none(alloc: Global, trips: usize, rows: usize) -> Result<TripIndex, Memory>
         ensures trips { IfOk result (λ index. length index.last.items ≡ trips) }
         ensures last { IfOk result (λ index. All (λ from. from ≡ 0) index.last.items) }
         ensures before { IfOk result (λ index. index.before.items ≡ []) }
     {
         let last = vec![in alloc; 0; trips]?;
-        Ok(TripIndex {
-            last,
-            before: Vec::new(alloc),
-        })
+        let before = Vec::with_capacity(alloc, rows)?;
+        Ok(TripIndex { last, before })
     }
 
     /// Adds a row of a trip.

@@ -5,6 +5,7 @@
 mod by_trip;
 mod counts;
 mod gap;
+mod joins;
 mod limits;
 mod loading;
 mod marks;
@@ -17,3 +18,6 @@ mod trips;
 
 pub use loading::{Loaded, load};
 pub use otp_model::Options;
+
+#[cfg(test)]
+mod tests;

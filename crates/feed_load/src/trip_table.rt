@@ -1,12 +1,12 @@
 ghost use Rattle.std.specs.Prelude.{◌≡◌, ◌<◌, ◌^◌, ◌≤◌, ℕ, IfOk, length};
 ghost use Rattle.std.specs.List.{All};
 ghost use Rattle.otp_model.specs.Limits.{clock_end};
-ghost use Rattle.feed_load.specs.ByTrip.{rows_by};
 ghost use Rattle.feed_load.specs.Marks.{AreMarks, times_of};
-ghost use Rattle.feed_load.specs.Starts.{IsHeadway, starts_of, trip_of_headway};
+ghost use Rattle.feed_load.specs.Starts.{IsHeadway, starts_by, starts_of};
 ghost use Rattle.feed_load.specs.TripTables.{IsTripTable};
 
 use crate::by_trip::TripIndex;
+use crate::joins::join_rows;
 use crate::marks::Marks;
 use crate::starts::count_starts;
 use gtfs_links::HeadwayRow;
@@ -24,13 +24,15 @@ pub struct TripTable<'a> {
 }
 
 impl<'a> TripTable<'a> {
-    /// The headways of a trip, in row order.
+    /// Headways that give the starts of a trip; none exactly where none are of it.
     pub fn headways_of(&self, alloc: Global, trip: TripNo) -> Result<Vec<HeadwayRow>, Memory>
         requires table { (times : ℕ) × IsTripTable times self.now }
         requires trip { trip < length self.now.trips.now }
-        ensures { IfOk result (λ rows. rows.items ≡ rows_by trip_of_headway self.now.headways.now trip) }
+        ensures starts { IfOk result (λ rows. starts_by rows.items ≡ starts_of self.now.headways.now trip) }
+        ensures headways { (times : ℕ) → All (IsHeadway times) self.now.headways.now → IfOk result (λ rows. All (IsHeadway times) rows.items) }
     {
-        self.index.rows(alloc, self.headways, trip)
+        let rows = self.index.rows(alloc, self.headways, trip)?;
+        join_rows(alloc, rows)
     }
 
     /// How many starts a trip has on each day of its service.

@@ -1,9 +1,10 @@
 -- The edges from a stop.
-use Rattle.std.proofs.Common.{arith, ◌≡◌, ◌↔◌, ℕ, ◌*◌, ◌+◌, ◌-◌, ◌<◌, ◌≤◌, List, [], ◌∷◌, ◌++◌, length, get_or, take, Option, Some, None, ◌⊎◌, inl, inr, refl, sym, ap, subst, ◌∙◌}
+use Rattle.std.proofs.Common.{arith, ◌≡◌, ◌↔◌, ℕ, ℤ, pos, ◌-ℤ◌, unsigned_abs, ◌*◌, ◌+◌, ◌-◌, ◌<◌, ◌≤◌, List, [], ◌∷◌, ◌++◌, length, get_or, take, Option, Some, None, ◌⊎◌, inl, inr, refl, sym, ap, subst, ◌∙◌}
 use Rattle.std.specs.List.{All, Any, Contains, slice_get}
 use Rattle.std.specs.List.Sorted.{IsStrictlyIncreasing}
 use Rattle.std.specs.Option.{IsSome}
 use Rattle.std.proofs.lemmas.Bool.{cases_lt}
+use Rattle.std.proofs.lemmas.Int.{ints}
 use Rattle.std.proofs.lemmas.List.{get_or_default, get_or_past, length_push}
 use Rattle.std.proofs.lemmas.List.Sums.{sum_by_push}
 use Rattle.std.proofs.lemmas.Option.{same_Some}
@@ -95,6 +96,36 @@ minimum_there stops rows from q to near m h = (h.0, (h.1, h.2.0, inr near), h.2.
 
 minimum_back : (stops : List Stop) (rows : List TransferRow) (from : Stop) (q : ℕ) (to : Stop) (m : ℕ) → HasMinimum (IsAmong stops rows from q to) m → FromSome (IsMinimum stops q to) rows m
 minimum_back stops rows from q to m h = (h.0, h.1.0, (h.1.1, h.2))
+
+none_apart : (z : ℤ) → unsigned_abs (z -ℤ z) ≡ 0
+none_apart z = let same : (z -ℤ z) ≡ pos 0 = omega (arith, ints) in ap unsigned_abs same
+
+alike : (a b : Stop) → a ≡ b → square_apart (point_of a) (point_of b) ≡ 0
+alike a b e =
+    let x : unsigned_abs (a.x -ℤ b.x) ≡ 0 = ap (λ (s : Stop). unsigned_abs (a.x -ℤ s.x)) (sym e) ∙ none_apart a.x in
+    let y : unsigned_abs (a.y -ℤ b.y) ≡ 0 = ap (λ (s : Stop). unsigned_abs (a.y -ℤ s.y)) (sym e) ∙ none_apart a.y in
+    rw (x, y) refl
+
+greater_square : (a b : ℕ) → a ≤ b → a * a ≤ b * b
+greater_square a b le = grind arith
+
+-- beyond the farthest that rows reach there is no edge
+pub edge_far : (stops : List Stop) (rows : List TransferRow) (profile : Profile) (p : ℕ) (from : Stop) (q : ℕ) (to : Stop) (at_from at_to : Point) → at_from ≡ point_of from → at_to ≡ point_of to
+    → slice_get stops p ≡ Some from → slice_get stops q ≡ Some to → profile.reach ≤ most_reach → most_reach * most_reach < square_apart at_from at_to → (edge : Edge) → IsEdgeTo stops rows profile p from q to edge → ⊥
+edge_far stops rows profile p from q to at_from at_to is_from is_to f t reach far edge (at, under) =
+    let apart : most_reach * most_reach < square_apart (point_of from) (point_of to) = rw (is_from, is_to) at far in
+    elim under.given [
+      | inl own ↦
+          let same : from ≡ to = same_Some from to (sym f ∙ (ap (slice_get stops) (own ∙ at) ∙ t)) in
+          omega (arith, apart, alike from to same)
+      | inr more ↦ elim more [
+        | inl near ↦ (let wide = greater_square profile.reach most_reach reach in omega (arith, apart, near.2, wide))
+        | inr row ↦ elim row.1.2 [
+          | inl bars ↦ under.kept row.0 row.1 bars
+          | inr near ↦ omega (arith, apart, near)
+        ]
+      ]
+    ]
 
 pub edge_some : (stops : List Stop) (rows : List TransferRow) (profile : Profile) (p : ℕ) (from : Stop) (q : ℕ) (to : Stop) (at_from at_to : Point) (square walk minimum : ℕ) → at_from ≡ point_of from → at_to ≡ point_of to → square ≡ square_apart at_from at_to → square ≤ most_reach * most_reach → (Any (BarsWayTo stops q to) rows → ⊥) → IsGiven stops rows profile p from q to → IsWalkOver profile.speed square walk → IsGreatest (FromSome (IsMinimum stops q to) rows) minimum → IsOnly (IsEdgeTo stops rows profile p from q to) (Some (record { to = q; walk = walk; minimum = minimum }))
 edge_some stops rows profile p from q to at_from at_to square walk minimum is_from is_to is_square close open_ given over least = ((refl, under), same)

@@ -12,6 +12,7 @@ ghost use Rattle.walk_table.specs.Rows.{IsEdgeTo, IsGiven};
 
 use crate::copies::copied_stops;
 use crate::fault::EdgesFault;
+use crate::ground::{Ground, Numbered};
 use crate::near::{Northward, candidates, northward_of};
 use crate::passed::passed_over;
 use crate::rows::{greatest_minimum, is_barred, is_named, rows_from};
@@ -48,7 +49,8 @@ pub fn edges(
     ensures passed { IfOk result (λ walks. Counts (IsPassedOver stops.now) transfers.now walks.passed) }
     ensures fault { IfErr result (IsCause stops.now transfers.now profile.now) }
 {
-    let from = edges_from_all(alloc, stops, transfers, profile)?;
+    let ground = Ground { stops, profile };
+    let from = edges_from_all(alloc, &ground, transfers)?;
     let passed = passed_over(alloc, stops, transfers)?;
     let stops = copied_stops(alloc, stops)?;
     Ok(Walks {
@@ -64,25 +66,23 @@ pub fn edges(
 /// For each stop the edges from it.
 fn edges_from_all(
     alloc: Global,
-    stops: &[Stop],
+    ground: &Ground,
     transfers: &[TransferRow],
-    profile: &Profile,
 ) -> Result<List<List<Edge>>, EdgesFault>
-    requires walks { CanWalk profile.now }
-    requires stops { length stops.now < 2 ^ 32 }
-    ensures whole { IfOk result (λ from. length from ≡ length stops.now) }
-    ensures each { IfOk result (EachAt (AreEdgesFrom stops.now transfers.now profile.now)) }
+    requires walks { CanWalk ground.now.profile.now }
+    requires stops { length ground.now.stops.now < 2 ^ 32 }
+    ensures whole { IfOk result (λ from. length from ≡ length ground.now.stops.now) }
+    ensures each { IfOk result (EachAt (AreEdgesFrom ground.now.stops.now transfers.now ground.now.profile.now)) }
     ensures count { IfOk result (λ from. edge_count from ≤ most_edges) }
-    ensures fault { IfErr result (IsCause stops.now transfers.now profile.now) }
+    ensures fault { IfErr result (IsCause ground.now.stops.now transfers.now ground.now.profile.now) }
 {
-    let northward = northward_of(alloc, stops)?;
+    let northward = northward_of(alloc, ground.stops)?;
     let mut from = List::new(alloc);
     let mut room = MOST_EDGES;
-    for (number, stop) in stops.iter().enumerate() {
+    for (number, stop) in ground.stops.iter().enumerate() {
         let number = number as StopNo;
-        let list = edges_from(
-            alloc, &northward, stops, transfers, profile, number, stop, room,
-        )?;
+        let at = Numbered { number, stop };
+        let list = edges_from(alloc, ground, &northward, transfers, &at, room)?;
         room -= list.len();
         from.push(list)?;
     }
@@ -92,28 +92,29 @@ fn edges_from_all(
 /// The edges from one stop, if there is room for so many.
 fn edges_from(
     alloc: Global,
+    ground: &Ground,
     northward: &Northward,
-    stops: &[Stop],
     transfers: &[TransferRow],
-    profile: &Profile,
-    number: StopNo,
-    stop: &Stop,
+    from: &Numbered,
     room: usize,
 ) -> Result<List<Edge>, EdgesFault>
-    requires walks { CanWalk profile.now }
-    requires stands { AreStandings northward.now.south stops.now northward.now.standings.items }
-    requires stops { length stops.now < 2 ^ 32 }
-    requires stop { slice_get stops.now number ≡ Some stop.now }
-    ensures edges { IfOk result (AreEdgesFrom stops.now transfers.now profile.now number) }
+    requires walks { CanWalk ground.now.profile.now }
+    requires stands { AreStandings northward.now.south ground.now.stops.now northward.now.standings.items }
+    requires stops { length ground.now.stops.now < 2 ^ 32 }
+    requires stop { slice_get ground.now.stops.now from.now.number ≡ Some from.now.stop.now }
+    ensures edges { IfOk result (AreEdgesFrom ground.now.stops.now transfers.now ground.now.profile.now from.now.number) }
     ensures few { IfOk result (λ list. length list ≤ room) }
-    ensures fault { IfErr result (IsCauseFrom stops.now transfers.now profile.now number room) }
+    ensures fault { IfErr result (IsCauseFrom ground.now.stops.now transfers.now ground.now.profile.now from.now.number room) }
 {
-    let rows = rows_from(alloc, stops, transfers, number, stop)?;
-    let candidates = candidates(alloc, northward, stops, &rows, profile, number, stop)?;
+    let rows = rows_from(alloc, ground.stops, transfers, from)?;
+    let candidates = candidates(alloc, ground, northward, &rows, from)?;
     let mut list = Vec::new(alloc);
-    for &to_number in &candidates {
-        let to = &stops[to_number as usize];
-        let edge = edge_to(profile, stops, &rows, number, stop, to_number, to);
+    for &number in &candidates {
+        let to = Numbered {
+            number,
+            stop: &ground.stops[number as usize],
+        };
+        let edge = edge_to(ground, &rows, from, &to);
         add_edge(&mut list, edge, room)?;
     }
     Ok(List::from_vec(list))
@@ -137,55 +138,39 @@ fn add_edge(list: &mut Vec<Edge>, edge: Option<Edge>, room: usize) -> Result<(),
 }
 
 /// The edge from one stop to another, by the rows that leave the one.
-fn edge_to(
-    profile: &Profile,
-    stops: &[Stop],
-    rows: &[TransferRow],
-    number: StopNo,
-    from: &Stop,
-    to_number: StopNo,
-    to: &Stop,
-) -> Option<Edge>
-    requires walks { CanWalk profile.now }
-    requires from { slice_get stops.now number ≡ Some from.now }
-    requires to { slice_get stops.now to_number ≡ Some to.now }
-    ensures { IsOnly (IsEdgeTo stops.now rows.now profile.now number from.now to_number to.now) result }
+fn edge_to(ground: &Ground, rows: &[TransferRow], from: &Numbered, to: &Numbered) -> Option<Edge>
+    requires walks { CanWalk ground.now.profile.now }
+    requires from { slice_get ground.now.stops.now from.now.number ≡ Some from.now.stop.now }
+    requires to { slice_get ground.now.stops.now to.now.number ≡ Some to.now.stop.now }
+    ensures { IsOnly (IsEdgeTo ground.now.stops.now rows.now ground.now.profile.now from.now.number from.now.stop.now to.now.number to.now.stop.now) result }
 {
-    if !is_given(profile, stops, rows, number, from, to_number, to) {
+    if !is_given(ground, rows, from, to) {
         return None;
     }
-    if is_barred(stops, rows, to_number, to) {
+    if is_barred(ground.stops, rows, to) {
         return None;
     }
     // Rows hold for no pair that is farther apart.
-    let square = square_within(FARTHEST, &from.point(), &to.point())?;
+    let square = square_within(FARTHEST, &from.stop.point(), &to.stop.point())?;
     Some(Edge {
-        to: to_number,
-        walk: seconds_over(profile.speed, square),
-        minimum: greatest_minimum(stops, rows, to_number, to),
+        to: to.number,
+        walk: seconds_over(ground.profile.speed, square),
+        minimum: greatest_minimum(ground.stops, rows, to),
     })
 }
 
 /// Whether the one stop is the other, the two are within reach, or a row leads from the one to the other.
-fn is_given(
-    profile: &Profile,
-    stops: &[Stop],
-    rows: &[TransferRow],
-    number: StopNo,
-    from: &Stop,
-    to_number: StopNo,
-    to: &Stop,
-) -> bool
-    requires walks { CanWalk profile.now }
-    ensures { IsTrue result ↔ IsGiven stops.now rows.now profile.now number from.now to_number to.now }
+fn is_given(ground: &Ground, rows: &[TransferRow], from: &Numbered, to: &Numbered) -> bool
+    requires walks { CanWalk ground.now.profile.now }
+    ensures { IsTrue result ↔ IsGiven ground.now.stops.now rows.now ground.now.profile.now from.now.number from.now.stop.now to.now.number to.now.stop.now }
 {
-    if number == to_number {
+    if from.number == to.number {
         return true;
     }
-    if are_in_reach(profile, from, to) {
+    if are_in_reach(ground.profile, from.stop, to.stop) {
         return true;
     }
-    is_named(stops, rows, to_number, to)
+    is_named(ground.stops, rows, to)
 }
 
 /// Whether both are stops or platforms, and the one is within reach of the other.

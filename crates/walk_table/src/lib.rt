@@ -6,6 +6,7 @@ mod all_edges;
 mod copies;
 mod direct_walk;
 mod fault;
+mod ground;
 mod near;
 mod passed;
 mod reach;

@@ -5,8 +5,9 @@ ghost use Rattle.std.specs.List.Sorted.{IsNonDecreasingBy, IsPermutation};
 ghost use Rattle.otp_base.specs.EachAt.{EachAt};
 ghost use Rattle.walk_table.specs.Near.{AreAllNumbers, AreCandidates, AreNumbersAround, AreNumbersFrom, AreStandings, IsStandingAt};
 
+use crate::ground::{Ground, Numbered};
 use otp_base::Memory;
-use otp_model::{Profile, Stop, StopNo, TransferRow};
+use otp_model::{Stop, StopNo, TransferRow};
 use std::alloc::Global;
 
 /// How far north of the southernmost stop a stop is, in millimetres.
@@ -80,23 +81,21 @@ fn standing_of(south: i64, number: StopNo, stop: &Stop) -> Standing
 /// around it.
 pub fn candidates(
     alloc: Global,
+    ground: &Ground,
     northward: &Northward,
-    stops: &[Stop],
     rows: &[TransferRow],
-    profile: &Profile,
-    number: StopNo,
-    stop: &Stop,
+    from: &Numbered,
 ) -> Result<Vec<StopNo>, Memory>
-    requires stands { AreStandings northward.now.south stops.now northward.now.standings.items }
-    requires stops { length stops.now < 2 ^ 32 }
-    requires stop { slice_get stops.now number ≡ Some stop.now }
-    ensures { IfOk result (λ numbers. AreCandidates stops.now rows.now profile.now number stop.now numbers.items) }
+    requires stands { AreStandings northward.now.south ground.now.stops.now northward.now.standings.items }
+    requires stops { length ground.now.stops.now < 2 ^ 32 }
+    requires stop { slice_get ground.now.stops.now from.now.number ≡ Some from.now.stop.now }
+    ensures { IfOk result (λ numbers. AreCandidates ground.now.stops.now rows.now ground.now.profile.now from.now.number from.now.stop.now numbers.items) }
 {
     if !rows.is_empty() {
-        return all_numbers(alloc, stops.len());
+        return all_numbers(alloc, ground.stops.len());
     }
-    let north = stop.y.abs_diff(northward.south);
-    numbers_around(alloc, &northward.standings, north, profile.reach)
+    let north = from.stop.y.abs_diff(northward.south);
+    numbers_around(alloc, &northward.standings, north, ground.profile.reach)
 }
 
 /// The numbers of so many stops.

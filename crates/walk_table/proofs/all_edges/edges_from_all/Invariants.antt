@@ -6,7 +6,7 @@ use Rattle.walk_table.proofs.all_edges.edges_from_all.Given as goal
 
 abbrev pub invariant-loop-number : goal.invariant-loop-number
 invariant-loop-number l = record {
-  each : EachAt (AreEdgesFrom l.stops l.transfers l.profile) l.from;
+  each : EachAt (AreEdgesFrom l.ground.stops.now l.transfers l.ground.profile.now) l.from;
   whole : length l.from ≡ l.number;
   room : edge_count l.from + l.room ≡ most_edges;
 }

@@ -5,4 +5,4 @@ use Rattle.walk_table.specs.Rows.{IsMinimum}
 use Rattle.walk_table.proofs.rows.greatest_minimum.Given as goal
 
 abbrev pub invariant-loop-row : goal.invariant-loop-row
-invariant-loop-row l = IsGreatest (FromSome (IsMinimum l.stops l.number l.stop) (take l.row-index l.rows)) l.greatest
+invariant-loop-row l = IsGreatest (FromSome (IsMinimum l.stops l.at.number l.at.stop.now) (take l.row-index l.rows)) l.greatest
