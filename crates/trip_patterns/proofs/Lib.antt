@@ -1,0 +1,6 @@
+mod CallLemmas
+mod ColumnLemmas
+mod FirstFitLemmas
+mod LaneLemmas
+mod ReadLemmas
+mod RowLemmas

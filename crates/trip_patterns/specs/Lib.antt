@@ -1,0 +1,4 @@
+pub mod FirstFit
+pub mod Lanes
+pub mod Putting
+pub mod Rows

@@ -1,0 +1,16 @@
+//! Runs of one pattern and day, kept in lanes: in no column of a lane does a later row stand before an earlier one, so that
+//! the first row which is still to depart is as good as any later one.
+#![tactic(auto)]
+
+mod builder;
+mod columns;
+mod first_fit;
+mod fitting;
+mod lane;
+mod row;
+mod spot;
+
+pub use builder::LaneBuilder;
+pub use first_fit::lanes_of;
+pub use lane::Lane;
+pub use spot::Spot;
