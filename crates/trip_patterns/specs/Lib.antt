@@ -2,3 +2,4 @@ pub mod FirstFit
 pub mod Lanes
 pub mod Putting
 pub mod Rows
+pub mod Timetables

@@ -9,8 +9,10 @@ mod fitting;
 mod lane;
 mod row;
 mod spot;
+mod timetable;
 
 pub use builder::LaneBuilder;
 pub use first_fit::lanes_of;
 pub use lane::Lane;
 pub use spot::Spot;
+pub use timetable::{BlockStop, Timetable};
