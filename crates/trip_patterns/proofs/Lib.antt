@@ -1,3 +1,4 @@
+mod BlockLemmas
 mod CallLemmas
 mod ColumnLemmas
 mod FirstFitLemmas

@@ -1,6 +1,6 @@
 -- Timetables: lanes in blocks, one block for each pattern and day, and for each stop its places in them.
 use Rattle.std.specs.Prelude.{◌≡◌, ◌≢◌, ℕ, List, Some}
-use Rattle.std.specs.List.{All, AllPairs, Any, Contains, flat_map, slice_get}
+use Rattle.std.specs.List.{All, AllPairs, Contains, flat_map, slice_get}
 use Rattle.std.specs.List.Sorted.{IsPermutation}
 use Rattle.otp_model.specs.Patterns.{Spot}
 use Rattle.otp_model.specs.declared.timetable.Run.{Run}

@@ -22,7 +22,7 @@ pub fn fits_behind(day: &DayNo, pattern: &[Spot], rows: &[Row], run: &Run) -> bo
     is_last_before(rows, calls)
 }
 
-fn is_same_day(day: &DayNo, other: &DayNo) -> bool
+pub fn is_same_day(day: &DayNo, other: &DayNo) -> bool
     ensures { IsTrue result ↔ (day.now ≡ other.now) }
 {
     *day == *other

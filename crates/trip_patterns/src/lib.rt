@@ -2,6 +2,7 @@
 //! the first row which is still to depart is as good as any later one.
 #![tactic(auto)]
 
+mod blocks;
 mod builder;
 mod columns;
 mod first_fit;
@@ -11,6 +12,7 @@ mod row;
 mod spot;
 mod timetable;
 
+pub use blocks::{are_of_one_block, is_of_block};
 pub use builder::LaneBuilder;
 pub use first_fit::lanes_of;
 pub use lane::Lane;
