@@ -1,0 +1,7 @@
+mod BlockLemmas
+mod CallLemmas
+mod ColumnLemmas
+mod FirstFitLemmas
+mod LaneLemmas
+mod ReadLemmas
+mod RowLemmas

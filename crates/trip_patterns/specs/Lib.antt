@@ -1,0 +1,5 @@
+pub mod FirstFit
+pub mod Lanes
+pub mod Putting
+pub mod Rows
+pub mod Timetables
