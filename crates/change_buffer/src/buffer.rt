@@ -1,0 +1,76 @@
+ghost use Rattle.std.specs.Prelude.{◌≡◌, ◌-◌, ◌≤◌, Some, length, map, replicate, slice_get, slice_set, IfOk, OnOk, OnErr};
+ghost use Rattle.std.specs.List.{list_any};
+ghost use Rattle.change_buffer.specs.Offers.{answer_to, fresh, is_pending, settled, with_message};
+ghost use Rattle.change_buffer.specs.declared.feed_state.FeedState.{FeedState};
+
+use crate::feed_state::FeedState;
+use crate::offer_fault::OfferFault;
+use otp_base::Memory;
+use otp_model::Message;
+use std::alloc::Global;
+use std::marker::Model;
+
+/// The messages of a number of real-time feeds, each a full dataset of its feed: the one committed last, and
+/// the one to be committed next.
+#[derive(Drop)]
+pub struct Buffer {
+    feeds: Vec<FeedState>,
+}
+
+impl Model for Buffer {
+    ghost use Rattle.std.specs.Prelude.{List};
+    ghost use Rattle.change_buffer.specs.declared.feed_state.FeedState.{FeedState as State};
+
+    ghost Value = { List State };
+
+    ghost view = { λ buffer. buffer.feeds.items };
+}
+
+impl Buffer {
+    /// A buffer of so many feeds, of which nothing was accepted.
+    pub fn new(alloc: Global, feeds: u32) -> Result<Buffer, Memory>
+        ensures { IfOk result (λ buffer. buffer ≡ replicate feeds fresh) }
+    {
+        let mut states = Vec::new(alloc);
+        for _ in 0..feeds {
+            states.push(FeedState::new())?;
+        }
+        Ok(Buffer { feeds: states })
+    }
+
+    /// Makes a message the pending one of its feed, in place of an earlier pending one, and answers how many
+    /// messages that feed has accepted with it. An `Err` changes nothing.
+    ///
+    /// # Errors
+    ///
+    /// `Older` exactly where the message has a timestamp below the last one that its feed accepted, which is
+    /// `have`; else `CountSpent` exactly where the feed has accepted 2^40 messages. No memory is taken.
+    pub fn offer(&mut self, feed_no: u32, message: Message) -> Result<u64, OfferFault>
+        requires first { 1 ≤ feed_no }
+        requires last { feed_no ≤ length self.old }
+        ensures answer { (state : FeedState) → slice_get self.old (feed_no - 1) ≡ Some state → result ≡ answer_to state message }
+        ensures ok { OnOk result ((state : FeedState) → slice_get self.old (feed_no - 1) ≡ Some state → self.new ≡ slice_set self.old (feed_no - 1) (with_message state message)) }
+        ensures err { OnErr result (self.new ≡ self.old) }
+        ensures feeds { length self.new ≡ length self.old }
+    {
+        let place = (feed_no - 1) as usize;
+        self.feeds[place].offer(message)
+    }
+
+    /// Whether some feed has a message that isn't committed.
+    pub fn pending(&self) -> bool
+        ensures { result ≡ list_any is_pending self.now }
+    {
+        self.feeds.iter().any(FeedState::is_pending)
+    }
+
+    /// Makes the pending messages the committed ones. It takes no memory.
+    pub fn settle(&mut self)
+        ensures settled { self.new ≡ map settled self.old }
+        ensures feeds { length self.new ≡ length self.old }
+    {
+        for feed in self.feeds.iter_mut() {
+            feed.settle();
+        }
+    }
+}
