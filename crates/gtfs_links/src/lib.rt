@@ -21,6 +21,3 @@ mod numbers;
 
 pub use feed::{HeadwayRow, Linked, link};
 pub use otp_model::{TimeRow, TransferRow};
-
-#[cfg(test)]
-mod tests;

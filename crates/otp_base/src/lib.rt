@@ -7,6 +7,7 @@
 #![tactic(auto)]
 
 mod adding;
+mod copied;
 mod digits;
 mod disk_folder;
 mod folder;
@@ -23,6 +24,7 @@ mod steps;
 mod text;
 
 pub use adding::push_some;
+pub use copied::Copied;
 pub use digits::{number, number_in, number_of_bytes};
 pub use disk_folder::DiskFolder;
 pub use folder::{FileEntry, FileFault, FileGot, Folder, read_file};

@@ -5,6 +5,7 @@ use std::sync::ledger::{Blank, Book, Ledger, Share};
 
 /// A counter of steps, which contracts see as their number. It takes no bytes and counts nothing when it runs:
 /// what a call counts is known to proofs alone.
+#[derive(Drop)]
 pub struct Steps<L: Ledger> {
     book: Book<L>,
     share: Share<L>,

@@ -3,6 +3,7 @@ ghost use Rattle.std.specs.Cmp.Lexicographic.{slice_cmp};
 ghost use Rattle.std.specs.Ordering.{nat_cmp};
 ghost use Rattle.std.specs.Str.{bytes_eq};
 
+use crate::copied::Copied;
 use crate::memory::Memory;
 use std::alloc::Global;
 use std::cmp::Ordering;
@@ -36,13 +37,6 @@ impl Text {
         Text { string }
     }
 
-    /// The same text, in memory of its own.
-    pub fn copy(&self, alloc: Global) -> Result<Text, Memory>
-        ensures { IfOk result (λ t. t ≡ self.now) }
-    {
-        Text::from_str(alloc, self.string.as_str())
-    }
-
     pub fn as_str(&self) -> &str
         ensures { result.now ≡ self.now }
     {
@@ -67,5 +61,11 @@ impl Text {
         ensures { result ≡ bytes_eq self.now text.now }
     {
         self.string.as_str() == text
+    }
+}
+
+impl Copied for Text {
+    fn copy(&self, alloc: Global) -> Result<Text, Memory> {
+        Text::from_str(alloc, self.string.as_str())
     }
 }

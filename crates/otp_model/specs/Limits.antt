@@ -41,6 +41,14 @@ most_days = 31
 abbrev pub most_feeds : ℕ
 most_feeds = 16
 
+-- messages of one `plan`
+abbrev pub most_messages : ℕ
+most_messages = 1000
+
+-- one message, in bytes
+abbrev pub most_message_bytes : ℕ
+most_message_bytes = 16777216
+
 abbrev pub most_reach : ℕ
 most_reach = 5000000
 

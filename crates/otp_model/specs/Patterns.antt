@@ -1,9 +1,10 @@
 -- Patterns: the stops that a run calls at, with boarding and alighting there. Runs of one pattern and day are kept
 -- together, and a change of one of them touches the calls of all.
 use Rattle.std.specs.Prelude.{ℕ, List, [], ◌∷◌, ◌++◌, length, map, Bool, true, false, ◌==◌, ◌&&◌, not, sum_by}
-use Rattle.std.specs.List.{filter, list_any}
+use Rattle.std.specs.List.{filter, flat_map, list_any}
 use Rattle.std.specs.Ordering.{int_eq}
 use Rattle.otp_model.specs.Resolution.{is_same_name}
+use Rattle.otp_model.specs.Schedule.{run_with}
 use Rattle.otp_model.specs.declared.change.Change.{Change}
 use Rattle.otp_model.specs.declared.timetable.Call.{Call}
 use Rattle.otp_model.specs.declared.timetable.Run.{Run}
@@ -39,6 +40,14 @@ is_of_one_block a b = int_eq a.name.day b.name.day && is_same_pattern (pattern_o
 
 abbrev pub is_changed : List Change → Run → Bool
 is_changed changes run = list_any (λ (change : Change). is_same_name change.name run.name) changes
+
+-- the run that a change brings, if it has calls
+abbrev pub run_changed : Change → List Run
+run_changed change = run_with change.name change.calls
+
+-- the runs without those of the changed names, and each changed run that has calls
+abbrev pub with_changes : List Run → List Change → List Run
+with_changes runs changes = filter (λ run. not (is_changed changes run)) runs ++ flat_map run_changed changes
 
 -- the run is of one pattern and day with a run of a changed name
 abbrev pub is_touched : List Run → List Change → Run → Bool

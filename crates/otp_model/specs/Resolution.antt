@@ -5,7 +5,8 @@
 -- added one is none of the horizon; 8 a delay or time is out of range, or the calls of an added run can't be told; 9 an
 -- earlier entity of the message resolved for the same name.
 use Rattle.std.specs.Prelude.{ℕ, ℤ, pos, ◌+ℤ◌, int_le, int_lt, List, [], ◌∷◌, length, map, Option, None, Some, Result, Ok, Err, Bool, true, false, not, nat_le, ◌==◌, ◌&&◌, ◌||◌, if◌then◌else◌, count_by}
-use Rattle.std.specs.List.{find, flat_map, list_any, position_from, range_with_len}
+use Rattle.std.specs.List.{AllPairs, find, flat_map, list_any, position_from, range_with_len}
+use Rattle.std.specs.List.Sorted.{IsPermutation}
 use Rattle.std.specs.Option.{option_map_or, option_map}
 use Rattle.std.specs.Ordering.{is_eq}
 use Rattle.std.specs.Str.{bytes_eq}
@@ -14,7 +15,7 @@ use Rattle.otp_model.specs.Clock.{clock_of}
 use Rattle.otp_model.specs.Day.{day_of}
 use Rattle.otp_model.specs.LocalDays.{local_day_of}
 use Rattle.otp_model.specs.Moves.{are_events, first_of, given_from, moved_calls, raised}
-use Rattle.otp_model.specs.Names.{run_name_cmp}
+use Rattle.otp_model.specs.Names.{IsNameBelow, run_name_cmp}
 use Rattle.otp_model.specs.declared.change.Change.{Change}
 use Rattle.otp_model.specs.declared.message.Entity.{Entity}
 use Rattle.otp_model.specs.declared.message.Message.{Message}
@@ -154,6 +155,11 @@ has_reason reason (Err other) = other == reason
 -- how many entities are ignored for each of the nine reasons
 abbrev pub ignored : Feed → Message → List ℕ
 ignored feed message = map (λ reason. count_by (has_reason reason) (judged_all feed message)) (range_with_len 1 9)
+
+-- the changes that a message makes, by rising name
+pub record AreChangesOf (feed : Feed) (message : Message) (changes : List Change) : Type 0 where
+  pub same : IsPermutation (changes_of feed message) changes
+  pub rise : AllPairs (λ (a b : Change). IsNameBelow a.name b.name) changes
 
 -- What a message says of a name: nothing, or the form of its run, which is out of the schedule or has these calls.
 abbrev pub form : Feed → Message → RunName → Option (Option (List Call))

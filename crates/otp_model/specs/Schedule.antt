@@ -1,14 +1,14 @@
 -- The schedule after a history of commits: each real-time feed is a full dataset, of which the last committed message
 -- counts, and of two feeds that speak of one run that of the greater number (FeedHeader, FULL_DATASET, in the GTFS
 -- Realtime reference; which feed wins is this project's own).
-use Rattle.std.specs.Prelude.{ℕ, suc, zero, max, List, [], ◌∷◌, ◌++◌, map, Option, None, Some, Bool, true, false, ◌==◌}
-use Rattle.std.specs.List.{filter, find, flat_map, range_with_len}
+use Rattle.std.specs.Prelude.{◌≡◌, ◌≢◌, ℕ, suc, zero, max, List, [], ◌∷◌, ◌++◌, map, Option, None, Some, Bool, true, false, ◌==◌}
+use Rattle.std.specs.List.{All, AllPairs, filter, find, flat_map, list_any, range_with_len}
 use Rattle.std.specs.Option.{option_map, option_map_or}
 use Rattle.std.specs.declared.cmp.Ordering.{Ordering}
 use Rattle.std.specs.declared.cmp.Ordering.TheVariants.{Less, Equal, Greater}
 use Rattle.otp_model.specs.Moves.{first_of}
-use Rattle.otp_model.specs.Names.{run_name_cmp}
-use Rattle.otp_model.specs.Resolution.{changes_of, form}
+use Rattle.otp_model.specs.Names.{IsNameBelow, run_name_cmp}
+use Rattle.otp_model.specs.Resolution.{changes_of, form, is_same_name}
 use Rattle.otp_model.specs.declared.change.Change.{Change}
 use Rattle.otp_model.specs.declared.message.Commit.{Commit}
 use Rattle.otp_model.specs.declared.message.Message.{Message}
@@ -92,3 +92,15 @@ added_names feed history = in_order (flat_map (λ number. option_map_or (added_i
 -- the schedule after a history: the feed's runs in order, and then the added ones
 abbrev pub sched : Feed → List Commit → List Run
 sched feed history = flat_map (planned_run feed history) feed.runs ++ flat_map (added_run feed history) (added_names feed history)
+
+-- the calls that a schedule has under a name, if it has a run of that name
+abbrev pub calls_in : List Run → RunName → Option (List Call)
+calls_in runs name = option_map (λ (run : Run). run.calls) (find (λ (run : Run). is_same_name run.name name) runs)
+
+-- the names of which two schedules have different calls, rising, each with its calls in the later one
+pub record AreDifferences (before now : List Run) (changes : List Change) : Type 0 where
+  pub rise : AllPairs (λ (a b : Change). IsNameBelow a.name b.name) changes
+  pub calls : All (λ (change : Change). calls_in now change.name ≡ change.calls) changes
+  pub only : All (λ (change : Change). calls_in before change.name ≢ change.calls) changes
+  pub whole : (name : RunName) → calls_in before name ≢ calls_in now name
+      → list_any (λ (change : Change). is_same_name change.name name) changes ≡ true

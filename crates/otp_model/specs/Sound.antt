@@ -1,9 +1,10 @@
 -- What holds of every feed that is accepted.
-use Rattle.std.specs.Prelude.{◌≡◌, ◌≢◌, ℕ, ◌+◌, ◌<◌, ◌^◌, pos, neg_ℤ, ◌+ℤ◌, ◌≤ℤ◌, length, IfSome}
+use Rattle.std.specs.Prelude.{◌≡◌, ◌≢◌, ℕ, ◌+◌, ◌<◌, ◌^◌, pos, neg_ℤ, ◌+ℤ◌, ◌≤ℤ◌, List, length, IfSome}
 use Rattle.std.specs.List.{All, AllPairs}
 use Rattle.otp_model.specs.declared.timetable.Call.{Call}
 use Rattle.otp_model.specs.declared.run_name.RunName.{RunName}
-use Rattle.otp_model.specs.declared.run_name.TripName.TheVariants.{Planned}
+use Rattle.otp_model.specs.declared.run_name.TripName.{TripName}
+use Rattle.otp_model.specs.declared.run_name.TripName.TheVariants.{Planned, Added}
 use Rattle.otp_model.specs.declared.timetable.Run.{Run}
 use Rattle.otp_model.specs.declared.timetable.Stop.{Stop}
 use Rattle.otp_model.specs.declared.timetable.Trip.{Trip}
@@ -55,3 +56,28 @@ pub record IsSound (feed : Feed) : Type 0 where
   pub last_day : (feed.first_day +ℤ pos feed.days) ≤ℤ pos (last_day + 1)
   pub runs : All (IsSoundRun (length feed.stops) (length feed.trips)) feed.runs
   pub run_names : AllPairs IsRunBelow feed.runs
+
+-- ---- what holds of every schedule over such a feed
+
+-- a call at one of so many stops, left no earlier than it is arrived at, with times from -2 ^ 41 to 2 ^ 41
+pub record IsServedCall (stops : ℕ) (call : Call) : Type 0 where
+  pub stop : call.stop < stops
+  pub forward : call.arrival ≤ℤ call.departure
+  pub low : neg_ℤ (pos (2 ^ 41)) ≤ℤ call.arrival
+  pub high : call.departure ≤ℤ pos (2 ^ 41)
+
+-- one of so many trips of a feed, or one that a message brought
+abbrev pub IsServedTrip : ℕ → TripName → Type 0
+IsServedTrip trips (Planned number) = number < trips
+IsServedTrip trips (Added text) = Unit {0}
+
+-- a run of one of so many trips, or an added one, on a day of the years 1970 to 2999, at so many stops, that arrives
+-- at no call before it left an earlier one
+pub record IsServedRun (stops trips : ℕ) (run : Run) : Type 0 where
+  pub trip : IsServedTrip trips run.name.trip
+  pub day : IsServiceDay run.name.day
+  pub calls : All (IsServedCall stops) run.calls
+  pub along : AllPairs (λ (earlier later : Call). earlier.departure ≤ℤ later.arrival) run.calls
+
+abbrev pub AreServed : Feed → List Run → Type 0
+AreServed feed runs = All (IsServedRun (length feed.stops) (length feed.trips)) runs

@@ -6,7 +6,7 @@ ghost use Rattle.otp_model.specs.Whole.{Dominates, IsInWindow, IsNoWorse};
 
 use crate::run_name::RunName;
 use crate::timetable::{Call, Edges, Run, Stop, StopNo, Time};
-use otp_base::{List, Memory};
+use otp_base::{Copied, List, Memory};
 use std::alloc::Global;
 
 /// Where a journey begins or ends: a stop or station by its number, or a point of the plane.
@@ -38,11 +38,8 @@ pub enum Leg {
     },
 }
 
-impl Leg {
-    /// The same leg, in memory of its own.
-    pub fn copy(&self, alloc: Global) -> Result<Leg, Memory>
-        ensures { IfOk result (λ leg. leg ≡ self.now) }
-    {
+impl Copied for Leg {
+    fn copy(&self, alloc: Global) -> Result<Leg, Memory> {
         match self {
             Leg::Walk { seconds } => Ok(Leg::Walk { seconds: *seconds }),
             Leg::Ride {

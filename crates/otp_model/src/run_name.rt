@@ -2,7 +2,7 @@ ghost use Rattle.std.specs.Prelude.{◌≡◌, IfOk};
 ghost use Rattle.otp_model.specs.Names.{kind_of, number_of, run_name_cmp, text_of};
 
 use crate::timetable::{DayNo, TripNo};
-use otp_base::{Memory, Text};
+use otp_base::{Copied, Memory, Text};
 use std::alloc::Global;
 use std::cmp::Ordering;
 
@@ -14,17 +14,16 @@ pub enum TripName {
     Added(Text),
 }
 
-impl TripName {
-    /// The same name, in memory of its own.
-    pub fn copy(&self, alloc: Global) -> Result<TripName, Memory>
-        ensures { IfOk result (λ name. name ≡ self.now) }
-    {
+impl Copied for TripName {
+    fn copy(&self, alloc: Global) -> Result<TripName, Memory> {
         match self {
             TripName::Planned(trip) => Ok(TripName::Planned(*trip)),
             TripName::Added(text) => Ok(TripName::Added(text.copy(alloc)?)),
         }
     }
+}
 
+impl TripName {
     /// Planned trips stand before added ones.
     fn kind(&self) -> u32
         ensures { result ≡ kind_of self.now }
@@ -65,11 +64,8 @@ pub struct RunName {
     pub start: Option<u32>,
 }
 
-impl RunName {
-    /// The same name, in memory of its own.
-    pub fn copy(&self, alloc: Global) -> Result<RunName, Memory>
-        ensures { IfOk result (λ name. name ≡ self.now) }
-    {
+impl Copied for RunName {
+    fn copy(&self, alloc: Global) -> Result<RunName, Memory> {
         let trip = self.trip.copy(alloc)?;
         Ok(RunName {
             trip,
@@ -77,7 +73,9 @@ impl RunName {
             start: self.start,
         })
     }
+}
 
+impl RunName {
     /// How two names stand in the order of names: planned ones by day, trip and start, that without a start
     /// first; behind them the added ones by day and by the bytes of their text.
     pub fn compare(&self, other: &RunName) -> Ordering

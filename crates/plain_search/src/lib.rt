@@ -9,6 +9,3 @@ mod rides;
 mod tails;
 
 pub use best::all_best;
-
-#[cfg(test)]
-mod tests;

@@ -3,7 +3,7 @@ ghost use Rattle.std.specs.List.{Contains};
 ghost use Rattle.otp_base.specs.Adds.{Adds, IsOnly};
 ghost use Rattle.plain_search.specs.Rides.{IsRideAmong, IsRideBetween, IsRideFrom, IsRideIn};
 
-use otp_base::{Memory, push_some};
+use otp_base::{Copied, Memory, push_some};
 use otp_model::{Call, Run, RunName};
 use std::alloc::Global;
 

@@ -4,7 +4,7 @@ ghost use Rattle.otp_base.specs.Adds.{Adds, FromSome, IsOnly};
 ghost use Rattle.plain_search.specs.Tails.{IsLastTail, IsLonger, IsLongerBy, IsLongerFrom, Joins, legs_before};
 
 use crate::rides::Ride;
-use otp_base::{List, Memory, push_some};
+use otp_base::{Copied, List, Memory, push_some};
 use otp_model::{Call, Edge, Edges, Leg};
 use std::alloc::Global;
 use walk_table::Reach;

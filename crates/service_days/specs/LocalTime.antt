@@ -69,10 +69,3 @@ pub record IsStart (zone : Zone) (day start : ℤ) : Type 0 where
   pub noon : DateTime
   pub is_noon : IsNoon day noon
   pub instant : nanos_of_seconds (start +ℤ pos 43200) ≡ instant_of noon (compatible_offset (ambiguous_at (plain_zone zone.rule) noon))
-
--- the day that a clock of the zone shows at an instant, if that is at most 253,402,000,000
-abbrev pub local_day_of : Zone → ℕ → Option ℤ
-local_day_of zone instant =
-    if nat_le instant 253402000000
-    then Some (int_div_euclid (pos instant +ℤ offset_at (plain_zone zone.rule) (nanos_of_seconds (pos instant))) (pos 86400))
-    else None

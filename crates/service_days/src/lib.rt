@@ -10,6 +10,3 @@ pub use local_time::{day_start, local_day};
 pub use otp_model::parse_day;
 pub use services::{Services, active};
 pub use zone::{ZoneFault, zone_of};
-
-#[cfg(test)]
-mod tests;

@@ -1,7 +1,8 @@
 ghost use Rattle.std.specs.Prelude.{◌≡◌, ◌-ℤ◌, ◌*ℤ◌, pos, IfOk, IfSome, Ok};
 ghost use Rattle.jiff_core.specs.Calendar.{IsEpochDay, IsWithin};
+ghost use Rattle.otp_model.specs.LocalDays.{local_day_of};
 ghost use Rattle.otp_model.specs.Ranges.{IsServiceDay};
-ghost use Rattle.service_days.specs.LocalTime.{IsNoon, IsStart, local_day_of, start_of};
+ghost use Rattle.service_days.specs.LocalTime.{IsNoon, IsStart, start_of};
 
 use jiff::Timestamp;
 use jiff::civil::{Date, DateTime};

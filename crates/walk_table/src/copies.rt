@@ -1,6 +1,6 @@
 ghost use Rattle.std.specs.Prelude.{◌≡◌, IfOk};
 
-use otp_base::{List, Memory};
+use otp_base::{Copied, List, Memory};
 use otp_model::Stop;
 use std::alloc::Global;
 

@@ -17,6 +17,3 @@ pub use all_edges::{Walks, edges};
 pub use direct_walk::direct;
 pub use fault::EdgesFault;
 pub use reach::{Reach, reach_of};
-
-#[cfg(test)]
-mod tests;

@@ -6,7 +6,7 @@ ghost use Rattle.gtfs_links.specs.Kept.{AreKeptNumbers, IsPlacedAs, TellsKept};
 ghost use Rattle.gtfs_links.specs.Linked.{trip_at};
 
 use crate::indexes::Indexes;
-use otp_base::{List, Memory};
+use otp_base::{Copied, List, Memory};
 use otp_model::{Trip, TripNo, TripRow};
 use std::alloc::Global;
 

@@ -5,7 +5,7 @@ ghost use Rattle.otp_model.specs.Rows.{IsStopRow};
 ghost use Rattle.gtfs_links.specs.Linked.{number_if, stop_at};
 
 use name_index::Names;
-use otp_base::{List, Memory, Text};
+use otp_base::{Copied, List, Memory, Text};
 use otp_model::{Point, Stop, StopNo, StopRow};
 use std::alloc::Global;
 
