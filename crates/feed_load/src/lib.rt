@@ -18,6 +18,3 @@ mod trips;
 
 pub use loading::{Loaded, load};
 pub use otp_model::Options;
-
-#[cfg(test)]
-mod tests;

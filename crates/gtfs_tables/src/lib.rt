@@ -22,6 +22,3 @@ pub use otp_model::{
     AgencyRow, CalendarRow, DateRow, FeedFault, FrequencyRow, RouteRow, StopRow, StopTimeRow,
     Tables, TransferLine, TripRow,
 };
-
-#[cfg(test)]
-mod tests;

@@ -7,6 +7,3 @@ mod slice;
 
 pub use cursor::{cursor_text, fits_text, read_cursor};
 pub use slice::page;
-
-#[cfg(test)]
-mod tests;

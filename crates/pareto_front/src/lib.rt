@@ -5,6 +5,3 @@
 mod front;
 
 pub use front::front_of;
-
-#[cfg(test)]
-mod tests;

@@ -7,6 +7,3 @@ mod reading;
 
 pub use field::{Field, FieldValue, WireFault};
 pub use reading::{cut_is_spelling, fields, fields_at};
-
-#[cfg(test)]
-mod tests;

@@ -7,6 +7,3 @@ mod date;
 mod journeys;
 
 pub use body::{Body, body_bytes};
-
-#[cfg(test)]
-mod tests;

@@ -4,6 +4,3 @@
 mod plan;
 
 pub use plan::plan_runs;
-
-#[cfg(test)]
-mod tests;

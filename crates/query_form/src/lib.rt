@@ -12,6 +12,3 @@ mod query;
 pub use fault::{QueryFault, TargetFault};
 pub use laws::next_leads_on;
 pub use query::read_query;
-
-#[cfg(test)]
-mod tests;

@@ -12,6 +12,3 @@ mod trip;
 
 pub use fault::MessageFault;
 pub use reading::{one_message, read_message};
-
-#[cfg(test)]
-mod tests;

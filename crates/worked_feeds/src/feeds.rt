@@ -1,3 +1,6 @@
+ghost use Rattle.std.specs.Prelude.{◌≡◌, ◌++◌, IfOk, OnOk};
+ghost use Rattle.worked_feeds.specs.Feeds.{entry_of, files_of as files_with, is_named as has_name};
+
 use otp_base::{FileEntry, List, Memory, Text};
 use std::alloc::Global;
 
@@ -110,15 +113,18 @@ V3,10:40:00,10:40:00,D,2
     },
 ];
 
-/// The files of a feed, changed where a change has the name of one, and then the changes of other names.
+/// The files of a feed: a change stands in place of the file of its name, a change of another name is a file more, and
+/// a file without a text isn't there.
 pub fn files_of(
     alloc: Global,
     feed: &[SampleFile],
     changes: &[SampleFile],
-) -> Result<List<FileEntry>, Memory> {
+) -> Result<List<FileEntry>, Memory>
+    ensures { IfOk result (λ files. files ≡ files_with feed.now changes.now) }
+{
     let mut files = List::new(alloc);
     for file in feed {
-        if !names(changes, file.name) {
+        if !is_named(changes, file.name) {
             push_file(alloc, &mut files, file)?;
         }
     }
@@ -128,17 +134,16 @@ pub fn files_of(
     Ok(files)
 }
 
-fn names(files: &[SampleFile], name: &str) -> bool {
-    for file in files {
-        if file.name == name {
-            return true;
-        }
-    }
-    false
+fn is_named(files: &[SampleFile], name: &str) -> bool
+    ensures { result ≡ has_name files.now name.now }
+{
+    files.iter().any(|file| file.name == name)
 }
 
-fn push_file(alloc: Global, files: &mut List<FileEntry>, file: &SampleFile) -> Result<(), Memory> {
-    if file.text.is_empty() {
+fn push_file(alloc: Global, files: &mut List<FileEntry>, file: &SampleFile) -> Result<(), Memory>
+    ensures { OnOk result (files.new ≡ files.old ++ entry_of file.now) }
+{
+    if file.text.len() == 0 {
         return Ok(());
     }
     let name = Text::from_str(alloc, file.name)?;

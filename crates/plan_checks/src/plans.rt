@@ -1,8 +1,8 @@
-use crate::plan_runs;
 use otp_base::{List, Text};
 use otp_model::{
     Call, Cursor, Edges, Place, Profile, Request, Run, RunName, Stop, StopNo, TripName, Value,
 };
+use planner::plan_runs;
 use std::alloc::Global;
 use std::process::Abort;
 use std::test::Fail;

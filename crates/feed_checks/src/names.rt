@@ -1,4 +1,4 @@
-use crate::Names;
+use name_index::Names;
 use std::test::Fail;
 
 #[test]

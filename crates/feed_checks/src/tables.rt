@@ -1,4 +1,4 @@
-use crate::{FeedFault, Tables, read_tables};
+use gtfs_tables::{FeedFault, Tables, read_tables};
 use otp_base::{FileEntry, List, MemoryFolder, Text};
 use std::alloc::Global;
 use std::test::Fail;

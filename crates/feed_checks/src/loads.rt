@@ -1,4 +1,4 @@
-use crate::{Loaded, Options, load};
+use feed_load::{Loaded, Options, load};
 use otp_base::{List, MemoryFolder, Text};
 use otp_model::{FeedFault, Profile};
 use service_days::zone_of;

@@ -1,7 +1,7 @@
-use crate::{MessageFault, read_message};
 use otp_base::Text;
 use otp_model::{Entity, Event, Message, StopUpdate, TripUpdate};
 use pb_wire::WireFault;
+use rt_reader::{MessageFault, read_message};
 use std::alloc::Global;
 use std::test::Fail;
 

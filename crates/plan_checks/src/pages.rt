@@ -1,6 +1,6 @@
-use crate::{cursor_text, fits_text, page, read_cursor};
 use otp_base::List;
 use otp_model::{Cursor, Found, Journey, Value};
+use paging::{cursor_text, fits_text, page, read_cursor};
 use std::alloc::{AllocError, Global};
 use std::test::Fail;
 

@@ -1,6 +1,6 @@
-use crate::front_of;
 use otp_base::List;
 use otp_model::{Found, Journey, Value};
+use pareto_front::front_of;
 use std::test::Fail;
 
 fn value(departure: i64, arrival: i64, rides: u32, cost: u64) -> Value {

@@ -1,7 +1,7 @@
-use crate::{QueryFault, TargetFault, read_query};
 use jiff::tz::TimeZone;
 use otp_base::{List, Text};
 use otp_model::{Cursor, Edges, Feed, Place, Profile, Request, Stop, Value, Zone};
+use query_form::{QueryFault, TargetFault, read_query};
 use std::alloc::Global;
 use std::test::Fail;
 

@@ -1,4 +1,4 @@
-use crate::{Field, FieldValue, WireFault, fields, fields_at};
+use pb_wire::{Field, FieldValue, WireFault, fields, fields_at};
 use std::test::Fail;
 
 /// A field of each wire type, the first with a number that is written longer than it needs.

@@ -3,36 +3,15 @@ ghost use Rattle.paging.specs.Text.{FitsText};
 ghost use Rattle.plan_json.specs.Journeys.{IsRideOf};
 ghost use Rattle.plan_json.specs.Plan.{IsBodyOf};
 
-use crate::clock::clock_text;
-use crate::date::date_text;
-use crate::{Body, body_bytes};
 use jiff::tz::TimeZone;
 use otp_base::{List, Memory, Text};
 use otp_model::{
     Call, Cursor, Feed, Found, Journey, Leg, Page, RunName, Stop, StopNo, Time, Trip, TripName,
     Value, Zone,
 };
+use plan_json::{Body, body_bytes};
 use std::alloc::Global;
 use std::test::Fail;
-
-#[test]
-fn writes_dates(rt: HostRuntime) -> Result<(), Fail> {
-    for (day, text) in [
-        (0, "19700101"),
-        (10_956, "19991231"),
-        (11_016, "20000229"),
-        (11_017, "20000301"),
-        (19_849, "20240506"),
-        (20_088, "20241231"),
-        (47_540, "21000228"),
-        (47_541, "21000301"),
-        (376_199, "29991231"),
-    ] {
-        assert!(rt; 0 <= day && day <= 376_199);
-        assert_eq!(rt; date_text(rt.alloc(), day)?.as_str(), text);
-    }
-    Ok(())
-}
 
 fn feed(alloc: Global, stop_ids: [&str; 2], trip_id: &str) -> Result<Feed, Memory> {
     let mut stops = List::new(alloc);
@@ -120,28 +99,6 @@ const WORTH: Value = Value {
     cost: 360_000,
 };
 
-#[test]
-fn writes_a_journey(rt: HostRuntime) -> Result<(), Fail> {
-    let alloc = rt.alloc();
-    let feed = feed(alloc, ["A", "D"], "T3")?;
-    assert!(rt; feed.stops.len() > 1 && feed.trips.len() > 0);
-    // The times that are not asked for, of arrival at the boarding and of departure at the alighting, differ.
-    let board = call(0, 1, 1_714_981_700, 1_714_981_800);
-    let alight = call(1, 2, 1_714_984_800, 1_714_984_900);
-    assert!(rt; board.stop == 0 && alight.stop == 1);
-    let name = RunName {
-        trip: TripName::Planned(0),
-        day: 19_849,
-        start: None,
-    };
-    let body = reply(alloc, &feed, WORTH, name, board, alight)?;
-    let bytes = body_bytes(alloc, &feed, &body)?;
-    let text =
-        r#"{"behind":false,"commit":0,"direct":null,"journeys":[{"arrival":1714984800,"cost":360000,"departure":1714981800,"legs":[{"kind":"walk","seconds":0},{"alight":{"seq":2,"stop":"D","time":1714984800},"board":{"seq":1,"stop":"A","time":1714981800},"date":"20240506","kind":"ride","trip":"T3"},{"kind":"walk","seconds":0}],"rides":1}],"more":false,"moved":false,"next":"v1-0-1714981800-1714984800-1-360000"}"#;
-    assert!(rt; bytes.as_slice() == text.as_bytes());
-    Ok(())
-}
-
 /// A ride of an added trip with a start, and with ids that JSON escapes.
 #[test]
 fn writes_a_start(rt: HostRuntime) -> Result<(), Fail> {
@@ -161,19 +118,6 @@ fn writes_a_start(rt: HostRuntime) -> Result<(), Fail> {
     let text =
         "{\"behind\":false,\"commit\":0,\"direct\":null,\"journeys\":[{\"arrival\":1714984800,\"cost\":360000,\"departure\":1714981800,\"legs\":[{\"kind\":\"walk\",\"seconds\":0},{\"alight\":{\"seq\":2,\"stop\":\"\\u0001\\n\u{1D11E}\",\"time\":6},\"board\":{\"seq\":1,\"stop\":\"a\\\"b\\\\\",\"time\":5},\"date\":\"19700101\",\"kind\":\"ride\",\"start\":\"25:01:01\",\"trip\":\"/\"},{\"kind\":\"walk\",\"seconds\":0}],\"rides\":1}],\"more\":false,\"moved\":false,\"next\":\"v1-0-1714981800-1714984800-1-360000\"}";
     assert!(rt; bytes.as_slice() == text.as_bytes());
-    Ok(())
-}
-
-#[test]
-fn writes_clocks(rt: HostRuntime) -> Result<(), Fail> {
-    for (seconds, text) in [
-        (0, "00:00:00"),
-        (35_999, "09:59:59"),
-        (36_000, "10:00:00"),
-        (3_599_999, "999:59:59"),
-    ] {
-        assert_eq!(rt; clock_text(rt.alloc(), seconds)?.as_str(), text);
-    }
     Ok(())
 }
 

@@ -3,7 +3,7 @@ use Rattle.std.specs.List.{All}
 use Rattle.std.proofs.lemmas.List.Elements.{All-nil, All-push}
 use Rattle.plan_json.specs.Journeys.{IsLegOf}
 use Rattle.plan_json.specs.Plan.{IsFoundOf}
-use Rattle.plan_json.proofs.tests.reply.Goals as goal
+use Rattle.plan_checks.proofs.replies.reply.Goals as goal
 
 one_more : {Row : Type 0} (P : Row → Type 0) (rows more : List Row) (row : Row) → more ≡ rows ++ row ∷ [] → All P rows → P row → All P more
 one_more P rows more row is all last = rw is (All-push P rows row all last)
