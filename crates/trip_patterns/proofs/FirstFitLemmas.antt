@@ -1,5 +1,5 @@
 -- Lanes that runs are put into one by one.
-use Rattle.std.proofs.Common.{◌≡◌, ℕ, suc, ◌+◌, ◌<◌, ◌≤◌, List, [], ◌∷◌, ◌++◌, length, take, drop, get_or, set, Some, sym, ap, subst, ◌∙◌, arith, inl, inr, Result, Ok, Err, IfOk}
+use Rattle.std.proofs.Common.{◌≡◌, ℕ, suc, ◌+◌, ◌<◌, ◌≤◌, List, [], ◌∷◌, ◌++◌, length, take, drop, get_or, set, Some, refl, sym, ap, subst, ◌∙◌, arith, inl, inr, Result, Ok, Err, IfOk}
 use Rattle.std.specs.List.{All, slice_get}
 use Rattle.std.specs.List.Sorted.{IsPermutation}
 use Rattle.std.proofs.lemmas.Bool.{cases_lt}
@@ -11,7 +11,7 @@ use Rattle.std.proofs.lemmas.Option.{get_or_from_slice_get, slice_get_within}
 use Rattle.otp_model.specs.declared.timetable.Run.{Run}
 use Rattle.trip_patterns.specs.Lanes.{IsLane, LaneOf, empty_lane, with_run}
 use Rattle.trip_patterns.specs.FirstFit.{AreLanesOf, AreOfOneBlock, IsOfLane, rows_of}
-use Rattle.trip_patterns.specs.Putting.{FitsNone, IsJoined, IsOpened, IsPut}
+use Rattle.trip_patterns.specs.Putting.{ArePut, ArePutInto, FitsNone, IsJoined, IsOpened, IsPut}
 
 -- the lanes of the runs so far
 pub record AreLanesSoFar (runs so_far : List Run) (lanes : List LaneOf) : Type 0 where
@@ -105,3 +105,19 @@ lanes_more runs n run before after block less read are put =
     let of : All (IsOfLane (empty_lane run)) runs = subst (λ (r : Run). All (IsOfLane (empty_lane r)) runs) (sym read) (block n run less) in
     let more : take (n + 1) runs ≡ take n runs ++ run ∷ [] = take_more runs n run less ∙ ap (λ (r : Run). take n runs ++ r ∷ []) (sym read) in
     subst (λ (xs : List Run). AreLanesSoFar runs xs after) (sym more) (more_lanes runs (take n runs) run before after are of put)
+
+-- one run more is put
+put_more : (runs : List Run) (run : Run) (first before after : List LaneOf) → ArePut runs first before → IsPut run before after → ArePut (runs ++ run ∷ []) first after
+put_more [] run first before after are put = (after, subst (λ (ls : List LaneOf). IsPut run ls after) are put, refl)
+put_more (r ∷ runs) run first before after are put = (are.0, are.1, put_more runs run are.0 before after are.2 put)
+
+pub put_on : (runs : List Run) (n : ℕ) (run : Run) (before after : List LaneOf) → n < length runs → run ≡ get_or runs n run
+    → ArePutInto (take n runs) before → IsPut run before after → ArePutInto (take (n + 1) runs) after
+put_on runs n run before after less read are put =
+    let more : take (n + 1) runs ≡ take n runs ++ run ∷ [] = take_more runs n run less ∙ ap (λ (r : Run). take n runs ++ r ∷ []) (sym read) in
+    subst (λ (xs : List Run). ArePutInto xs after) (sym more) (put_more (take n runs) run [] before after are put)
+
+-- all runs are put
+pub all_put : (runs : List Run) (n : ℕ) (builders lanes : List LaneOf) → length runs ≤ n → ArePutInto (take n runs) builders → lanes ≡ builders → ArePutInto runs lanes
+all_put runs n builders lanes whole are same =
+    subst (λ (xs : List Run). ArePutInto xs lanes) (take_all n runs whole) (subst (λ (ls : List LaneOf). ArePutInto (take n runs) ls) (sym same) are)

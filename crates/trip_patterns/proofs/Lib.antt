@@ -3,5 +3,6 @@ mod CallLemmas
 mod ColumnLemmas
 mod FirstFitLemmas
 mod LaneLemmas
+mod LeastLemmas
 mod ReadLemmas
 mod RowLemmas

@@ -1,4 +1,5 @@
 pub mod FirstFit
+pub mod Hops
 pub mod Lanes
 pub mod Putting
 pub mod Rows

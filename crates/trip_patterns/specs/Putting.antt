@@ -1,4 +1,4 @@
--- One run put into lanes.
+-- Runs put into lanes, one after the other.
 use Rattle.std.specs.Prelude.{◌≡◌, ℕ, ◌<◌, ◌⊎◌, List, [], ◌∷◌, ◌++◌, length, Some, slice_set}
 use Rattle.std.specs.List.{slice_get}
 use Rattle.otp_model.specs.declared.timetable.Run.{Run}
@@ -28,3 +28,12 @@ pub record IsOpened (run : Run) (before after : List LaneOf) : Type 0 where
 
 abbrev pub IsPut : Run → List LaneOf → List LaneOf → Type 0
 IsPut run before after = IsJoined run before after ⊎ IsOpened run before after
+
+-- from these lanes on, the runs are put one after the other
+abbrev pub ArePut : List Run → List LaneOf → List LaneOf → Type 0
+ArePut [] before after = after ≡ before
+ArePut (run ∷ runs) before after = (between : List LaneOf) × IsPut run before between × ArePut runs between after
+
+-- The runs, taken in order, stand in these lanes: each in the first that it fits when its turn comes, or else in a new one.
+abbrev pub ArePutInto : List Run → List LaneOf → Type 0
+ArePutInto runs lanes = ArePut runs [] lanes

@@ -6,6 +6,7 @@ use Rattle.otp_model.specs.Patterns.{Spot}
 use Rattle.otp_model.specs.declared.timetable.Call.{Call}
 use Rattle.otp_model.specs.declared.timetable.Run.{Run}
 use Rattle.trip_patterns.specs.declared.row.Row.{Row}
+use Rattle.trip_patterns.specs.Hops.{AreLeast}
 use Rattle.trip_patterns.specs.Lanes.{IsLane, IsNoEarlier, LaneOf}
 
 -- the calls of these stops, with these sequences and times
@@ -64,13 +65,15 @@ column rows position = map (λ (row : Row). slice_index_or row.departures positi
 abbrev pub columns : ℕ → List Row → List ℤ
 columns stops rows = flat_map (column rows) (range_with_len 0 stops)
 
--- what a builder holds: the rows of a lane, and room for their columns, of which none is written
-pub record IsBuilt (day : ℤ) (pattern : List Spot) (rows : List Row) (written : List ℤ) (room : ℕ) : Type 0 where
+-- what a builder holds: the rows of a lane, their least times, and room for their columns, of which none is written
+pub record IsBuilt (day : ℤ) (pattern : List Spot) (rows : List Row) (written : List ℤ) (room : ℕ) (hops dwells : List ℕ) : Type 0 where
   pub are_rows : AreRows day pattern rows
+  pub are_least : AreLeast (length pattern) (map (run_of pattern) rows) hops dwells
   pub unwritten : written ≡ []
   pub has_room : length rows * length pattern ≤ room
 
--- what a lane holds: its rows, and their columns
-pub record IsWhole (day : ℤ) (pattern : List Spot) (rows : List Row) (written : List ℤ) : Type 0 where
+-- what a lane holds: its rows, their columns, and their least times
+pub record IsWhole (day : ℤ) (pattern : List Spot) (rows : List Row) (written : List ℤ) (hops dwells : List ℕ) : Type 0 where
   pub are_rows : AreRows day pattern rows
+  pub are_least : AreLeast (length pattern) (map (run_of pattern) rows) hops dwells
   pub are_columns : written ≡ columns (length pattern) rows

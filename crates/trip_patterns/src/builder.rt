@@ -5,6 +5,7 @@ ghost use Rattle.trip_patterns.specs.Lanes.{IsLane, empty_lane, with_run};
 use crate::columns::with_columns;
 use crate::fitting::fits_behind;
 use crate::lane::Lane;
+use crate::least::{LeastTimes, lower_dwells, lower_hops};
 use crate::row::Row;
 use crate::spot::Spot;
 use otp_base::{List, Memory, Steps};
@@ -22,6 +23,7 @@ pub struct LaneBuilder {
     rows: Vec<Row>,
     /// Empty, with room for the columns of the rows, so that to finish takes no memory.
     departures: Vec<Time>,
+    least: LeastTimes,
 }
 
 impl Model for LaneBuilder {
@@ -33,7 +35,7 @@ impl Model for LaneBuilder {
 
     ghost view = { λ lane. lane_of lane.day lane.pattern lane.rows.items };
 
-    ghost invariant = { λ lane. IsBuilt lane.day lane.pattern lane.rows.items lane.departures.items (vec_capacity lane.departures) };
+    ghost invariant = { λ lane. IsBuilt lane.day lane.pattern lane.rows.items lane.departures.items (vec_capacity lane.departures) lane.least.hops.items lane.least.dwells.items };
 }
 
 impl LaneBuilder {
@@ -42,12 +44,14 @@ impl LaneBuilder {
         ensures { IfOk result (λ lane. lane ≡ empty_lane first.now) }
     {
         let pattern = pattern_of(alloc, first.calls.as_slice())?;
+        let least = LeastTimes::new(alloc, pattern.len())?;
         Ok(LaneBuilder {
             alloc,
             day: first.name.day,
             pattern,
             rows: Vec::new(alloc),
             departures: Vec::new(alloc),
+            least,
         })
     }
 
@@ -74,6 +78,8 @@ impl LaneBuilder {
         let row = Row::of(self.alloc, run, steps)?;
         make_room(&mut self.departures, self.rows.len(), self.pattern.len())?;
         self.rows.push(row)?;
+        lower_hops(&mut self.least.hops, run.calls.as_slice());
+        lower_dwells(&mut self.least.dwells, run.calls.as_slice());
         Ok(())
     }
 
@@ -87,10 +93,11 @@ impl LaneBuilder {
             pattern,
             rows,
             departures,
+            least,
             ..
         } = self;
         let departures = with_columns(departures, pattern.len(), rows.as_slice());
-        Lane::of(day, pattern, rows, departures)
+        Lane::of(day, pattern, rows, departures, least)
     }
 }
 

@@ -2,7 +2,7 @@ ghost use Rattle.std.specs.Prelude.{◌≡◌, ◌+◌, ◌≤◌, IfNone, IfOk,
 ghost use Rattle.std.specs.List.{All};
 ghost use Rattle.trip_patterns.specs.Lanes.{IsLane, empty_lane, with_run};
 ghost use Rattle.trip_patterns.specs.FirstFit.{AreLanesOf, AreOfOneBlock};
-ghost use Rattle.trip_patterns.specs.Putting.{FitsNone, IsFirstFit, IsPut};
+ghost use Rattle.trip_patterns.specs.Putting.{ArePutInto, FitsNone, IsFirstFit, IsPut};
 
 use crate::builder::LaneBuilder;
 use crate::lane::Lane;
@@ -19,6 +19,7 @@ pub fn lanes_of<L: Ledger>(
 ) -> Result<Vec<Lane>, Memory>
     requires { AreOfOneBlock runs.now }
     ensures lanes { IfOk result (λ lanes. AreLanesOf runs.now lanes.items) }
+    ensures put { IfOk result (λ lanes. ArePutInto runs.now lanes.items) }
     ensures counted { OnOk result (steps.new ≡ steps.old + sum_by (λ run. length run.calls) runs.now) }
     ensures most { steps.new ≤ steps.old + sum_by (λ run. length run.calls) runs.now }
 {

@@ -1,12 +1,14 @@
-ghost use Rattle.std.specs.Prelude.{◌≡◌, ◌<◌, IfSome, length, map, slice_get};
+ghost use Rattle.std.specs.Prelude.{◌≡◌, ◌<◌, ◌≤◌, IfSome, length, map, slice_get};
+ghost use Rattle.trip_patterns.specs.Hops.{IsDwellBound, IsHopBound, least_dwell, least_hop, most_seconds};
 ghost use Rattle.trip_patterns.specs.Lanes.{IsCallAt, IsFirstCatch, departure_at};
 ghost use Rattle.trip_patterns.specs.Rows.{IsWhole, column, columns as columns_of, lane_of};
 
+use crate::least::LeastTimes;
 use crate::row::Row;
 use crate::spot::Spot;
 use lane_kernels::first_at_least;
 use otp_base::List;
-use otp_model::{Call, DayNo, RunName, Time};
+use otp_model::{Call, DayNo, RunName, StopNo, Time};
 use std::marker::Model;
 
 /// Runs of one pattern and day, as rows, none of which overtakes another: in no column does a later row stand before an
@@ -17,6 +19,7 @@ pub struct Lane {
     pattern: List<Spot>,
     rows: Vec<Row>,
     departures: Vec<Time>,
+    least: LeastTimes,
 }
 
 impl Model for Lane {
@@ -27,13 +30,19 @@ impl Model for Lane {
 
     ghost view = { λ lane. lane_of lane.day lane.pattern lane.rows.items };
 
-    ghost invariant = { λ lane. IsWhole lane.day lane.pattern lane.rows.items lane.departures.items };
+    ghost invariant = { λ lane. IsWhole lane.day lane.pattern lane.rows.items lane.departures.items lane.least.hops.items lane.least.dwells.items };
 }
 
 impl Lane {
-    /// The lane of rows and their columns.
-    pub(crate) fn of(day: DayNo, pattern: List<Spot>, rows: Vec<Row>, departures: Vec<Time>) -> Lane
-        requires { IsWhole day pattern rows.items departures.items }
+    /// The lane of rows, their columns and their least times.
+    pub(crate) fn of(
+        day: DayNo,
+        pattern: List<Spot>,
+        rows: Vec<Row>,
+        departures: Vec<Time>,
+        least: LeastTimes,
+    ) -> Lane
+        requires { IsWhole day pattern rows.items departures.items least.hops.items least.dwells.items }
         ensures { result ≡ lane_of day pattern rows.items }
     {
         Lane {
@@ -41,6 +50,7 @@ impl Lane {
             pattern,
             rows,
             departures,
+            least,
         }
     }
 
@@ -69,6 +79,30 @@ impl Lane {
         ensures { result.now ≡ self.now.pattern }
     {
         self.pattern.as_slice()
+    }
+
+    /// The stop of the calls at a position.
+    pub fn stop(&self, position: usize) -> StopNo
+        requires { position < length self.now.pattern }
+        ensures { IfSome (slice_get self.now.pattern position) (λ spot. result ≡ spot.stop) }
+    {
+        self.pattern.as_slice()[position].stop()
+    }
+
+    /// Whether the rows may be boarded at a position.
+    pub fn may_board(&self, position: usize) -> bool
+        requires { position < length self.now.pattern }
+        ensures { IfSome (slice_get self.now.pattern position) (λ spot. result ≡ spot.board) }
+    {
+        self.pattern.as_slice()[position].may_board()
+    }
+
+    /// Whether the rows may be left at a position.
+    pub fn may_alight(&self, position: usize) -> bool
+        requires { position < length self.now.pattern }
+        ensures { IfSome (slice_get self.now.pattern position) (λ spot. result ≡ spot.alight) }
+    {
+        self.pattern.as_slice()[position].may_alight()
     }
 
     /// The name of a row's run.
@@ -107,6 +141,28 @@ impl Lane {
             &self.rows,
             position,
         )
+    }
+
+    /// The least seconds of a row from its departure from the call at a position to its next arrival, from 0 to 2^32 - 2: 0
+    /// where a row arrives before it departs, and 2^32 - 2 at the last position and where there are no rows.
+    pub fn hop(&self, position: usize) -> u32
+        requires { position < length self.now.pattern }
+        ensures least { result ≡ least_hop self.now.runs position }
+        ensures bound { IsHopBound self.now.runs position result }
+        ensures most { result ≤ most_seconds }
+    {
+        self.least.hops[position]
+    }
+
+    /// The least seconds of a row from its arrival at a position to its departure, from 0 to 2^32 - 2: 0 where a row departs
+    /// before it arrives, and 2^32 - 2 where there are no rows.
+    pub fn dwell(&self, position: usize) -> u32
+        requires { position < length self.now.pattern }
+        ensures least { result ≡ least_dwell self.now.runs position }
+        ensures bound { IsDwellBound self.now.runs position result }
+        ensures most { result ≤ most_seconds }
+    {
+        self.least.dwells[position]
     }
 
     /// The first row that departs from the call at a position at a time or later, or the number of rows where none does.

@@ -8,6 +8,7 @@ mod columns;
 mod first_fit;
 mod fitting;
 mod lane;
+mod least;
 mod row;
 mod spot;
 mod timetable;

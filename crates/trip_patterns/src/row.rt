@@ -2,7 +2,7 @@ ghost use Rattle.std.specs.Prelude.{◌≡◌, ◌+◌, ◌≤◌, ◌<◌, ◌<
 ghost use Rattle.otp_model.specs.Patterns.{spot_of};
 
 use crate::spot::Spot;
-use otp_base::{List, Memory, Steps};
+use otp_base::{Copied, List, Memory, Steps};
 use otp_model::{Call, Run, RunName, Time};
 use std::alloc::Global;
 use std::sync::ledger::Ledger;
