@@ -1,0 +1,12 @@
+pub mod CountLemmas
+pub mod CourseLemmas
+pub mod GivenLemmas
+pub mod IndexLemmas
+pub mod JudgedLemmas
+pub mod ListLemmas
+pub mod LookupLemmas
+pub mod MeaningLemmas
+pub mod MovingLemmas
+pub mod RunLemmas
+pub mod TallyLemmas
+pub mod TimeLemmas

@@ -1,0 +1,7 @@
+pub mod Courses
+pub mod Indices
+pub mod Meaning
+pub mod Moving
+pub mod Reasons
+pub mod Sample
+pub mod Tallies
