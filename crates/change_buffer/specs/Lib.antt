@@ -1,1 +1,4 @@
+pub mod Commits
+pub mod Forms
+pub mod Laws
 pub mod Offers

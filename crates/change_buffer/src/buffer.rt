@@ -1,12 +1,23 @@
-ghost use Rattle.std.specs.Prelude.{◌≡◌, ◌-◌, ◌≤◌, Some, length, map, replicate, slice_get, slice_set, IfOk, OnOk, OnErr};
+ghost use Rattle.std.specs.Prelude.{◌≡◌, ◌-◌, ◌≤◌, List, [], ◌∷◌, ◌++◌, Some, length, map, replicate, slice_get, slice_set, IfOk, OnOk, OnErr};
 ghost use Rattle.std.specs.List.{list_any};
+ghost use Rattle.std.specs.List.Sorted.{IsPermutation};
+ghost use Rattle.otp_model.specs.Patterns.{with_changes};
+ghost use Rattle.otp_model.specs.Schedule.{AreDifferences, sched};
+ghost use Rattle.otp_model.specs.Sound.{IsSound};
+ghost use Rattle.otp_model.specs.declared.message.Commit.{Commit};
+ghost use Rattle.change_buffer.specs.Commits.{IsCommitted, pending_of};
 ghost use Rattle.change_buffer.specs.Offers.{answer_to, fresh, is_pending, settled, with_message};
 ghost use Rattle.change_buffer.specs.declared.feed_state.FeedState.{FeedState};
 
+use crate::difference::differences;
+use crate::feed_changes::resolve_all;
 use crate::feed_state::FeedState;
+use crate::names_changed::names_in_order;
 use crate::offer_fault::OfferFault;
+use crate::pending::pending_messages;
+use crate::prepared::Prepared;
 use otp_base::Memory;
-use otp_model::Message;
+use otp_model::{Commit, Feed, Message};
 use std::alloc::Global;
 use std::marker::Model;
 
@@ -18,18 +29,21 @@ pub struct Buffer {
 }
 
 impl Model for Buffer {
-    ghost use Rattle.std.specs.Prelude.{List};
+    ghost use Rattle.std.specs.Prelude.{List, ◌<◌, ◌^◌, length};
     ghost use Rattle.change_buffer.specs.declared.feed_state.FeedState.{FeedState as State};
 
     ghost Value = { List State };
 
     ghost view = { λ buffer. buffer.feeds.items };
+
+    ghost invariant = { λ buffer. length buffer.feeds.items < 2 ^ 32 };
 }
 
 impl Buffer {
     /// A buffer of so many feeds, of which nothing was accepted.
     pub fn new(alloc: Global, feeds: u32) -> Result<Buffer, Memory>
-        ensures { IfOk result (λ buffer. buffer ≡ replicate feeds fresh) }
+        ensures fresh { IfOk result (λ buffer. buffer ≡ replicate feeds fresh) }
+        ensures committed { IfOk result (λ buffer. IsCommitted buffer []) }
     {
         let mut states = Vec::new(alloc);
         for _ in 0..feeds {
@@ -52,6 +66,7 @@ impl Buffer {
         ensures ok { OnOk result ((state : FeedState) → slice_get self.old (feed_no - 1) ≡ Some state → self.new ≡ slice_set self.old (feed_no - 1) (with_message state message)) }
         ensures err { OnErr result (self.new ≡ self.old) }
         ensures feeds { length self.new ≡ length self.old }
+        ensures committed { (history : List Commit) → IsCommitted self.old history → IsCommitted self.new history }
     {
         let place = (feed_no - 1) as usize;
         self.feeds[place].offer(message)
@@ -64,13 +79,40 @@ impl Buffer {
         self.feeds.iter().any(FeedState::is_pending)
     }
 
+    /// The commit of the pending messages, and what it changes in the schedule. An `Err` is want of memory.
+    pub fn prepare(&self, alloc: Global, feed: &Feed) -> Result<Prepared, Memory>
+        requires { IsSound feed.now }
+        ensures messages { IfOk result (λ prepared. prepared.commit.messages ≡ pending_of self.now) }
+        ensures changes { IfOk result (λ prepared. (history : List Commit) → IsCommitted self.now history
+            → AreDifferences (sched feed.now history) (sched feed.now (history ++ prepared.commit ∷ [])) prepared.changes) }
+        ensures schedule { IfOk result (λ prepared. (history : List Commit) → IsCommitted self.now history
+            → IsPermutation (sched feed.now (history ++ prepared.commit ∷ [])) (with_changes (sched feed.now history) prepared.changes)) }
+    {
+        let feeds = resolve_all(alloc, feed, &self.feeds)?;
+        let names = names_in_order(alloc, &feeds)?;
+        let changes = differences(alloc, feed, &feeds, names)?;
+        let messages = pending_messages(alloc, &self.feeds)?;
+        Ok(Prepared {
+            commit: Commit { messages },
+            changes,
+        })
+    }
+
     /// Makes the pending messages the committed ones. It takes no memory.
     pub fn settle(&mut self)
         ensures settled { self.new ≡ map settled self.old }
         ensures feeds { length self.new ≡ length self.old }
+        ensures committed { (history : List Commit) (commit : Commit) → commit.messages ≡ pending_of self.old → IsCommitted self.old history
+            → IsCommitted self.new (history ++ commit ∷ []) }
     {
-        for feed in self.feeds.iter_mut() {
-            feed.settle();
-        }
+        settle_all(&mut self.feeds);
+    }
+}
+
+fn settle_all(feeds: &mut [FeedState])
+    ensures { feeds.new ≡ map settled feeds.old }
+{
+    for feed in feeds.iter_mut() {
+        feed.settle();
     }
 }

@@ -1,10 +1,13 @@
-use Rattle.std.proofs.Common.{◌≡◌, ◌<◌, length, arith}
-use Rattle.change_buffer.proofs.SettleLemmas.{replaced_more, replaced_within}
-use Rattle.change_buffer.specs.Offers.{settled}
+use Rattle.std.proofs.Common.{arith, ◌++◌, ◌∷◌, [], List, subst, sym}
+use Rattle.std.proofs.lemmas.Grind.{common_steps}
+use Rattle.change_buffer.specs.Commits.{IsCommitted}
+use Rattle.change_buffer.specs.declared.feed_state.FeedState.{FeedState}
+use Rattle.change_buffer.proofs.CommitLemmas.{committed_after}
 use Rattle.change_buffer.proofs.buffer.Buffer.settle.Goals as goal
 
-pub loop-feed-preserved : goal.loop-feed-preserved
-loop-feed-preserved c =
-    let same : length c.loop-feed.feed-items ≡ length c.deref_mut-feed-items.result.now = replaced_within settled c.deref_mut-feed-items.result.now c.loop-feed.feed-items c.loop-feed.feed-index c.loop-feed.invariant in
-    let within : c.loop-feed.feed-index < length c.deref_mut-feed-items.result.now = omega (arith, same, c.loop-feed-test.true) in
-    replaced_more settled c.deref_mut-feed-items.result.now c.loop-feed.feed-items c.loop-feed.feed-index c.feed-item.result c.settle.new.self within c.loop-feed.invariant c.settle.ensures
+pub returns-clause-settled : goal.returns-clause-settled
+returns-clause-settled c = grind (arith, common_steps)
+
+pub returns-clause-committed : goal.returns-clause-committed
+returns-clause-committed c = λ history commit published committed.
+    subst (λ (states : List FeedState). IsCommitted states (history ++ commit ∷ [])) (sym (returns-clause-settled c)) (committed_after c.args.self.now history commit published committed)
