@@ -6,3 +6,4 @@ pub mod ClapWalk
 pub mod ClapFacts
 pub mod FoundFacts
 pub mod ReadFacts
+pub mod MessageFacts

@@ -1,9 +1,9 @@
 -- What words ask for, from what was read of them.
 use Rattle.std.proofs.Common.{◌≡◌, ◌∙◌, ℕ, Bor, List, [], Option, Some, None, map, option_map, refl, ap}
-use Rattle.std.specs.Prelude.{IsSomeAnd, unwrap_or}
+use Rattle.std.specs.Prelude.{IfErr, IfOk, IsSomeAnd, Result, Ok, Err, unwrap_or}
 use Rattle.otp_base.specs.Optionals.{◌>>=◌}
 use Rattle.otp_model.specs.declared.options.Options.{Options}
-use Rattle.command_words.specs.Commands.{IsTask, Refuses, Task, task_on}
+use Rattle.command_words.specs.Commands.{IsCommandOf, IsTask, Refuses, Task, task_on}
 use Rattle.command_words.specs.Values.{AreAsked, Asked}
 use Rattle.command_words.specs.declared.command.Command.{Command}
 use Rattle.command_words.specs.declared.command.WordsFault.{WordsFault}
@@ -20,14 +20,10 @@ pub no-options : (read : Option Asked) (next : Asked → Option Task) (task : Op
 no-options read next task faults.Words is none = is ∙ ap (λ asked. asked >>= next) none
 no-options read next task faults.Memory is none = tt
 
--- no command of this name and these positional words
-pub no-command : (read : Option Asked) (name given : List ℕ) (positionals on : List (List ℕ)) (options : Options) (task : Option Task) → task ≡ (read >>= task_on name positionals)
-    → given ≡ name → on ≡ positionals → IsSomeAnd read (λ asked. AreAsked asked options) → ((asked : Asked) → task_on given on asked ≡ None) → task ≡ None
-no-command None name given positionals on options task is named same asked none = absurd asked
-no-command (Some asked) name given positionals on options task is named same are none = is ∙ rw (← named, ← same) (none asked)
-
-pub a-command : (read : Option Asked) (name given : List ℕ) (positionals on : List (List ℕ)) (options : Options) (command : Command) (task : Option Task)
+-- what a command of this name and these positional words is, or that there is none, said of the words
+pub a-command : (read : Option Asked) (name given : List ℕ) (positionals on : List (List ℕ)) (options : Options) (answer : Result Command WordsFault) (task : Option Task)
     → task ≡ (read >>= task_on name positionals) → given ≡ name → on ≡ positionals → IsSomeAnd read (λ asked. AreAsked asked options)
-    → ((asked : Asked) → AreAsked asked options → IsSomeAnd (task_on given on asked) (IsTask command)) → IsSomeAnd task (IsTask command)
-a-command None name given positionals on options command task is named same asked of = absurd asked
-a-command (Some asked) name given positionals on options command task is named same are of = rw (is, ← named, ← same) (of asked are)
+    → IsCommandOf given on options answer → IfOk answer (λ command. IsSomeAnd task (IsTask command)) × IfErr answer (Refuses task)
+a-command None name given positionals on options answer task is named same asked of = absurd asked
+a-command (Some asked) name given positionals on options (Ok command) task is named same are of = (rw (is, ← named, ← same) (of asked are), tt)
+a-command (Some asked) name given positionals on options (Err fault) task is named same are of = (tt, rw (is, ← named, ← same) (of asked are))

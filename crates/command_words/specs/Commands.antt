@@ -1,9 +1,12 @@
 -- The commands that words are.
-use Rattle.std.specs.Prelude.{◌≡◌, ℕ, List, [], ◌∷◌, Option, Some, None, IsSomeAnd, if◌then◌else◌, codes}
+use Rattle.std.specs.Prelude.{◌≡◌, ◌≤◌, ℕ, List, [], ◌∷◌, length, Option, Some, None, Result, Ok, Err, IsSomeAnd, nat_le, if◌then◌else◌, codes, option_map}
+use Rattle.std.specs.List.{All}
 use Rattle.std.specs.Str.{bytes_eq}
 use Rattle.otp_base.specs.Optionals.{◌>>=◌}
+use Rattle.otp_model.specs.Limits.{most_messages}
 use Rattle.otp_model.specs.Ranges.{AreOptionsInRange}
 use Rattle.otp_model.specs.declared.options.Options.{Options}
+use Rattle.command_words.specs.Messages.{AskedMessage, IsOf, all_asked, messages_in}
 use Rattle.command_words.specs.Words.{are_once, positionals_of, value_of}
 use Rattle.command_words.specs.Values.{AreAsked, Asked, options_in}
 use Rattle.command_words.specs.declared.command.Command.{Command}
@@ -19,16 +22,21 @@ Refuses read faults.Memory = Unit {0}
 -- what words ask for
 pub data Task : Type 0 where
   check : List ℕ → Asked → Task
-  plan : List ℕ → List ℕ → Asked → Task
+  plan : List ℕ → List ℕ → List AskedMessage → Asked → Task
 
 -- the options among the words, each at most once
 abbrev pub options_among : List (List ℕ) → Option Asked
 options_among words = if are_once words then options_in (λ name. value_of name words) else None
 
--- `check FOLDER` and `plan FOLDER QUERY`
+-- a plan, if there are not too many words for messages and each names one
+abbrev pub plan_with : List ℕ → List ℕ → List (List ℕ) → Asked → Option Task
+plan_with folder query words asked =
+    if nat_le (length words) most_messages then option_map (λ messages. plan folder query messages asked) (messages_in asked.feeds words) else None
+
+-- `check FOLDER` and `plan FOLDER QUERY N=NAME ..`
 abbrev pub task_on : List ℕ → List (List ℕ) → Asked → Option Task
 task_on name (folder ∷ []) asked = if bytes_eq name (codes "check") then Some (check folder asked) else None
-task_on name (folder ∷ query ∷ []) asked = if bytes_eq name (codes "plan") then Some (plan folder query asked) else None
+task_on name (folder ∷ query ∷ words) asked = if bytes_eq name (codes "plan") then plan_with folder query words asked else None
 task_on name _ asked = None
 
 -- what the words of a command line ask for, if they are a command: its name, and then its options and
@@ -43,14 +51,14 @@ task_of (name ∷ words) = do
 -- the command is the task
 abbrev pub IsTask : Command → Task → Type 0
 IsTask (commands.Check on options) (check folder asked) = (on.now ≡ folder) × AreAsked asked options
-IsTask (commands.Plan on of options) (plan folder query asked) = (on.now ≡ folder) × (of.now ≡ query) × AreAsked asked options
+IsTask (commands.Plan on of told options) (plan folder query messages asked) = (on.now ≡ folder) × (of.now ≡ query) × (all_asked told.items ≡ messages) × AreAsked asked options
 IsTask _ _ = ⊥
 
--- the command of a name and positional words, whatever options they are with, or none
-abbrev pub IsCommandOf : List ℕ → List (List ℕ) → Options → Option Command → Type 0
-IsCommandOf name positionals options None = (asked : Asked) → task_on name positionals asked ≡ None
-IsCommandOf name positionals options (Some command) = (asked : Asked) → AreAsked asked options → IsSomeAnd (task_on name positionals asked) (IsTask command)
+-- the command of a name and positional words with these options, or that they are none
+abbrev pub IsCommandOf : List ℕ → List (List ℕ) → Options → Result Command WordsFault → Type 0
+IsCommandOf name positionals options (Ok command) = (asked : Asked) → AreAsked asked options → IsSomeAnd (task_on name positionals asked) (IsTask command)
+IsCommandOf name positionals options (Err fault) = (asked : Asked) → AreAsked asked options → Refuses (task_on name positionals asked) fault
 
 abbrev pub HasRanges : Command → Type 0
 HasRanges (commands.Check on options) = AreOptionsInRange options
-HasRanges (commands.Plan on of options) = AreOptionsInRange options
+HasRanges (commands.Plan on of told options) = AreOptionsInRange options × All (IsOf options.feeds) told.items × (length told.items ≤ most_messages)

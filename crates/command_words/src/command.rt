@@ -1,13 +1,17 @@
-ghost use Rattle.std.specs.Prelude.{◌≡◌, IfErr, IfOk, IfSome, IsSomeAnd, map, string_bytes};
+ghost use Rattle.std.specs.Prelude.{◌≡◌, IfErr, IfOk, IsSomeAnd, map, string_bytes};
 ghost use Rattle.otp_model.specs.Ranges.{AreOptionsInRange};
 ghost use Rattle.command_words.specs.Commands.{HasRanges, IsCommandOf, IsTask, Refuses, task_of};
 
 use crate::app::matches_in;
+use crate::messages::{MessageWord, messages_in};
 use crate::values::options_in;
 use crate::words::{are_once, has_form};
 use otp_base::Memory;
 use otp_model::Options;
 use std::alloc::{AllocError, AllocFailed, Global};
+
+/// The most words that name messages.
+const MOST_MESSAGES: usize = 1_000;
 
 /// What the words ask for.
 #[derive(Debug, Drop)]
@@ -17,10 +21,12 @@ pub enum Command<'a> {
         folder: &'a str,
         options: Options,
     },
-    /// `plan FOLDER QUERY`: plan journeys over the feed of a folder, by the query of a plan's target.
+    /// `plan FOLDER QUERY N=NAME ..`: plan journeys over the feed of a folder once these messages are committed, by the
+    /// query of a plan's target.
     Plan {
         folder: &'a str,
         query: &'a str,
+        messages: Vec<MessageWord<'a>>,
         options: Options,
     },
 }
@@ -64,8 +70,9 @@ impl<T: Drop> From<AllocFailed<T>> for WordsFault {
     }
 }
 
-/// Reads the words behind the program's name: `check FOLDER` or `plan FOLDER QUERY`, with options before,
-/// between and behind the positional words.
+/// Reads the words behind the program's name: `check FOLDER`, or `plan FOLDER QUERY` with up to 1,000 words N=NAME
+/// behind it, each a file of a message of the real-time feed N; with options before, between and behind the
+/// positional words.
 ///
 /// `--zone NAME=RULE` (a POSIX rule) and `--from YYYYMMDD` (of the years 1970 to 2998) are needed. `--days` goes
 /// from 1 to 31 and is 7 where it isn't given, `--feeds` from 1 to 16 (1), `--speed` from 100 to 10,000 mm/s
@@ -85,25 +92,31 @@ pub fn read_words(alloc: Global, words: &[String]) -> Result<Command<'_>, WordsF
     let matches = matches_in(alloc, words)?;
     let options = options_in(alloc, &matches)?;
     let positionals = matches.get_strs("words").unwrap_or(&[]);
-    match command_of(name.as_str(), positionals, options) {
-        Some(command) => Ok(command),
-        None => Err(WordsFault::Words),
-    }
+    command_of(alloc, name.as_str(), positionals, options)
 }
 
 /// The command of a name and positional words, if they are one's.
-fn command_of<'a>(name: &str, positionals: &[&'a str], options: Options) -> Option<Command<'a>>
+fn command_of<'a>(
+    alloc: Global,
+    name: &str,
+    positionals: &[&'a str],
+    options: Options,
+) -> Result<Command<'a>, WordsFault>
     requires { AreOptionsInRange options }
     ensures command { IsCommandOf name.now (map (λ word. word.now) positionals.now) options result }
-    ensures ranges { IfSome result HasRanges }
+    ensures ranges { IfOk result HasRanges }
 {
     match positionals {
-        [folder] if name == "check" => Some(Command::Check { folder, options }),
-        [folder, query] if name == "plan" => Some(Command::Plan {
-            folder,
-            query,
-            options,
-        }),
-        _ => None,
+        [folder] if name == "check" => Ok(Command::Check { folder, options }),
+        [folder, query, words @ ..] if name == "plan" && words.len() <= MOST_MESSAGES => {
+            let messages = messages_in(alloc, options.feeds, words)?;
+            Ok(Command::Plan {
+                folder,
+                query,
+                messages,
+                options,
+            })
+        }
+        _ => Err(WordsFault::Words),
     }
 }

@@ -4,10 +4,9 @@
 
 mod app;
 mod command;
+mod messages;
 mod values;
 mod words;
 
 pub use command::{Command, WordsFault, read_words};
-
-#[cfg(test)]
-mod tests;
+pub use messages::MessageWord;

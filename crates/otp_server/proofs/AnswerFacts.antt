@@ -1,6 +1,7 @@
 -- What is answered and written, put together.
 use Rattle.std.proofs.Common.{◌≡◌, inl, inr, ℕ, List, Option, Some, None, IsSomeAnd, refl, subst, sym}
 use Rattle.command_words.specs.Commands.{IsTask, Task, task_of}
+use Rattle.command_words.specs.Messages.{all_asked}
 use Rattle.command_words.specs.Commands.Task.{check, plan}
 use Rattle.command_words.specs.declared.command.Command.TheVariants as commands
 use Rattle.otp_base.specs.declared.folder.FileEntry.{FileEntry}
@@ -18,7 +19,7 @@ use Rattle.otp_server.specs.declared.status.Status.TheVariants as status
 pub check_done : (files : Option (List FileEntry)) (words : List (List ℕ)) (on : _) (options : Options) (text : List ℕ) (read : Option Task)
     → task_of words ≡ read → IsSomeAnd read (IsTask (commands.Check on options)) → Checks files on.now options text → IsDone files words text
 check_done files words on options text None e m h = absurd m
-check_done files words on options text (Some (plan path query asked)) e m h = absurd m
+check_done files words on options text (Some (plan path query messages asked)) e m h = absurd m
 check_done files words on options text (Some (check path asked)) e m h = record {
   task = check path asked;
   options = options;
@@ -26,31 +27,34 @@ check_done files words on options text (Some (check path asked)) e m h = record 
   writes = subst (λ p. Checks files p options text) m.0 h;
 }
 
-pub plan_done : (files : Option (List FileEntry)) (words : List (List ℕ)) (on of : _) (options : Options) (text : List ℕ) (read : Option Task)
-    → task_of words ≡ read → IsSomeAnd read (IsTask (commands.Plan on of options)) → Plans files on.now options of.now text → IsDone files words text
-plan_done files words on of options text None e m h = absurd m
-plan_done files words on of options text (Some (check path asked)) e m h = absurd m
-plan_done files words on of options text (Some (plan path query asked)) e m h = record {
-  task = plan path query asked;
+pub plan_done : (files : Option (List FileEntry)) (words : List (List ℕ)) (on of told : _) (options : Options) (text : List ℕ) (read : Option Task)
+    → task_of words ≡ read → IsSomeAnd read (IsTask (commands.Plan on of told options)) → Plans files on.now options (all_asked told.items) of.now text → IsDone files words text
+plan_done files words on of told options text None e m h = absurd m
+plan_done files words on of told options text (Some (check path asked)) e m h = absurd m
+plan_done files words on of told options text (Some (plan path query messages asked)) e m h = record {
+  task = plan path query messages asked;
   options = options;
-  asked = record { task_is = e; options_are = m.2 };
-  writes = subst (λ p. Plans files p options query text) m.0 (subst (λ q. Plans files on.now options q text) m.1 h);
+  asked = record { task_is = e; options_are = m.3 };
+  writes = subst (λ p. Plans files p options messages query text) m.0
+      (subst (λ q. Plans files on.now options messages q text) m.1 (subst (λ ms. Plans files on.now options ms of.now text) m.2 h));
 }
 
 no_words : (files : Option (List FileEntry)) (task : Task) (options : Options) → Fails files task options refusal.Words → ⊥
 no_words files (check path asked) options h = h
-no_words files (plan path query asked) options h = h
+no_words files (plan path query messages asked) options h = h
 
 failed_refused : (files : Option (List FileEntry)) (words : List (List ℕ)) (why : Refusal) → IsFailed files words why → IsRefused files words why
 failed_refused files words refusal.Words h = absurd (no_words files h.task h.options h.fails)
 failed_refused files words (refusal.Feed fault) h = h
 failed_refused files words (refusal.Request fault) h = h
+failed_refused files words (refusal.Message place why) h = h
+failed_refused files words refusal.Read h = tt
 failed_refused files words refusal.Memory h = tt
 
 pub check_refused : (files : Option (List FileEntry)) (words : List (List ℕ)) (on : _) (options : Options) (why : Refusal) (read : Option Task)
     → task_of words ≡ read → IsSomeAnd read (IsTask (commands.Check on options)) → IsFeedFault files on.now options why → IsRefused files words why
 check_refused files words on options why None e m h = absurd m
-check_refused files words on options why (Some (plan path query asked)) e m h = absurd m
+check_refused files words on options why (Some (plan path query messages asked)) e m h = absurd m
 check_refused files words on options why (Some (check path asked)) e m h = failed_refused files words why (record {
   task = check path asked;
   options = options;
@@ -58,15 +62,16 @@ check_refused files words on options why (Some (check path asked)) e m h = faile
   fails = subst (λ p. IsFeedFault files p options why) m.0 h;
 })
 
-pub plan_refused : (files : Option (List FileEntry)) (words : List (List ℕ)) (on of : _) (options : Options) (why : Refusal) (read : Option Task)
-    → task_of words ≡ read → IsSomeAnd read (IsTask (commands.Plan on of options)) → IsPlanFault files on.now options of.now why → IsRefused files words why
-plan_refused files words on of options why None e m h = absurd m
-plan_refused files words on of options why (Some (check path asked)) e m h = absurd m
-plan_refused files words on of options why (Some (plan path query asked)) e m h = failed_refused files words why (record {
-  task = plan path query asked;
+pub plan_refused : (files : Option (List FileEntry)) (words : List (List ℕ)) (on of told : _) (options : Options) (why : Refusal) (read : Option Task)
+    → task_of words ≡ read → IsSomeAnd read (IsTask (commands.Plan on of told options)) → IsPlanFault files on.now options (all_asked told.items) of.now why → IsRefused files words why
+plan_refused files words on of told options why None e m h = absurd m
+plan_refused files words on of told options why (Some (check path asked)) e m h = absurd m
+plan_refused files words on of told options why (Some (plan path query messages asked)) e m h = failed_refused files words why (record {
+  task = plan path query messages asked;
   options = options;
-  asked = record { task_is = e; options_are = m.2 };
-  fails = subst (λ p. IsPlanFault files p options query why) m.0 (subst (λ q. IsPlanFault files on.now options q why) m.1 h);
+  asked = record { task_is = e; options_are = m.3 };
+  fails = subst (λ p. IsPlanFault files p options messages query why) m.0
+      (subst (λ q. IsPlanFault files on.now options messages q why) m.1 (subst (λ ms. IsPlanFault files on.now options ms of.now why) m.2 h));
 })
 
 -- ---- what is written

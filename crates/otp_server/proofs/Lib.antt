@@ -1,2 +1,4 @@
 pub mod ValueFacts
 pub mod AnswerFacts
+pub mod CommittedFacts
+pub mod TakenFacts

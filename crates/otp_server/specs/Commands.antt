@@ -2,6 +2,7 @@
 use Rattle.std.specs.Prelude.{◌≡◌, ℕ, List, length, IfSome, Option, Result, Ok, Err}
 use Rattle.command_words.specs.Commands.{Task}
 use Rattle.command_words.specs.Commands.Task.{check, plan}
+use Rattle.command_words.specs.Messages.{AskedMessage}
 use Rattle.command_words.specs.Values.{Asked}
 use Rattle.feed_load.specs.declared.loading.Loaded.{Loaded}
 use Rattle.feed_load.specs.Loaded.{Loads}
@@ -12,7 +13,8 @@ use Rattle.otp_model.specs.declared.feed_fault.FeedFault.{FeedFault}
 use Rattle.query_form.specs.declared.fault.TargetFault.{TargetFault}
 use Rattle.otp_model.specs.declared.options.Options.{Options}
 use Rattle.otp_server.specs.Lines.{counts_line}
-use Rattle.otp_server.specs.Reply.{IsPlanned, IsQueryFault, IsSearchable}
+use Rattle.otp_server.specs.Reply.{IsHeldUp, IsPlanned, IsQueryFault, IsSearchable}
+use Rattle.otp_server.specs.declared.refusal.Untaken.{Untaken}
 use Rattle.otp_server.specs.declared.refusal.Refusal.{Refusal}
 use Rattle.otp_server.specs.declared.refusal.Refusal.TheVariants as refusal
 
@@ -33,17 +35,19 @@ pub record Checks (files : Option (List FileEntry)) (path : List ℕ) (options :
   pub text_is : text ≡ counts_of loaded
 
 -- what `plan` writes; the feed is sound over every folder
-pub record Plans (files : Option (List FileEntry)) (path : List ℕ) (options : Options) (query text : List ℕ) : Type 0 where
+pub record Plans (files : Option (List FileEntry)) (path : List ℕ) (options : Options) (messages : List AskedMessage) (query text : List ℕ) : Type 0 where
   pub loaded : Loaded
   pub spelt : Spells files path options (Ok loaded)
   pub searchable : IsSearchable loaded.feed loaded.edges
-  pub planned : IsPlanned loaded.feed loaded.edges query text
+  pub planned : IsPlanned files loaded.feed loaded.edges messages query text
 
 -- a fault of the feed; a failed read and want of memory say nothing of it
 abbrev pub IsFeedFault : Option (List FileEntry) → List ℕ → Options → Refusal → Type 0
 IsFeedFault files path options refusal.Words = ⊥
 IsFeedFault files path options (refusal.Feed fault) = Spells files path options (Err fault)
 IsFeedFault files path options (refusal.Request fault) = ⊥
+IsFeedFault files path options (refusal.Message place why) = ⊥
+IsFeedFault files path options refusal.Read = ⊥
 IsFeedFault files path options refusal.Memory = Unit {0}
 
 -- a feed, and the query's fault over it
@@ -53,24 +57,33 @@ pub record IsRefusedOver (files : Option (List FileEntry)) (path : List ℕ) (op
   pub searchable : IsSearchable loaded.feed loaded.edges
   pub fault : IsQueryFault loaded.feed loaded.edges query why
 
--- a fault of the feed, or else of the query
-abbrev pub IsPlanFault : Option (List FileEntry) → List ℕ → Options → List ℕ → Refusal → Type 0
-IsPlanFault files path options query refusal.Words = ⊥
-IsPlanFault files path options query (refusal.Feed fault) = Spells files path options (Err fault)
-IsPlanFault files path options query (refusal.Request fault) = IsRefusedOver files path options query fault
-IsPlanFault files path options query refusal.Memory = Unit {0}
+-- a feed and a query without a fault, and the message that is refused
+pub record IsHeldUpOver (files : Option (List FileEntry)) (path : List ℕ) (options : Options) (messages : List AskedMessage) (query : List ℕ) (place : ℕ) (why : Untaken) : Type 0 where
+  pub loaded : Loaded
+  pub spelt : Spells files path options (Ok loaded)
+  pub searchable : IsSearchable loaded.feed loaded.edges
+  pub held : IsHeldUp files loaded.feed loaded.edges messages query place why
+
+-- a fault of the feed, or else of the query, or else of a message
+abbrev pub IsPlanFault : Option (List FileEntry) → List ℕ → Options → List AskedMessage → List ℕ → Refusal → Type 0
+IsPlanFault files path options messages query refusal.Words = ⊥
+IsPlanFault files path options messages query (refusal.Feed fault) = Spells files path options (Err fault)
+IsPlanFault files path options messages query (refusal.Request fault) = IsRefusedOver files path options query fault
+IsPlanFault files path options messages query (refusal.Message place why) = IsHeldUpOver files path options messages query place why
+IsPlanFault files path options messages query refusal.Read = Unit {0}
+IsPlanFault files path options messages query refusal.Memory = Unit {0}
 
 -- the options that a task asks for
 abbrev pub asked_of : Task → Asked
 asked_of (check path asked) = asked
-asked_of (plan path query asked) = asked
+asked_of (plan path query messages asked) = asked
 
 -- what a task writes
 abbrev pub Writes : Option (List FileEntry) → Task → Options → List ℕ → Type 0
 Writes files (check path asked) options text = Checks files path options text
-Writes files (plan path query asked) options text = Plans files path options query text
+Writes files (plan path query messages asked) options text = Plans files path options messages query text
 
 -- why a task is not carried out
 abbrev pub Fails : Option (List FileEntry) → Task → Options → Refusal → Type 0
 Fails files (check path asked) options why = IsFeedFault files path options why
-Fails files (plan path query asked) options why = IsPlanFault files path options query why
+Fails files (plan path query messages asked) options why = IsPlanFault files path options messages query why

@@ -1,16 +1,21 @@
 -- The lines of the program and its exit statuses. Their form is this project's own; the files are those of the
 -- GTFS Schedule reference, "Dataset Files".
-use Rattle.std.specs.Prelude.{ℕ, ◌==◌, List, [], ◌∷◌, ◌++◌, codes, decimal, if◌then◌else◌}
+use Rattle.std.specs.Prelude.{ℕ, ◌==◌, List, [], ◌∷◌, ◌++◌, Option, Some, None, codes, decimal, if◌then◌else◌}
+use Rattle.pb_wire.specs.declared.field.WireFault.TheVariants as wire
 use Rattle.query_form.specs.declared.fault.QueryFault.{QueryFault}
 use Rattle.query_form.specs.declared.fault.QueryFault.TheVariants as fault
 use Rattle.query_form.specs.declared.fault.TargetFault.{TargetFault}
 use Rattle.query_form.specs.declared.fault.TargetFault.TheVariants as target
+use Rattle.rt_reader.specs.declared.fault.MessageFault.{MessageFault}
+use Rattle.rt_reader.specs.declared.fault.MessageFault.TheVariants as message
 use Rattle.otp_model.specs.FeedFaults.{file_name}
 use Rattle.otp_model.specs.declared.feed_fault.FeedFault.{FeedFault}
 use Rattle.otp_model.specs.declared.feed_fault.FeedFault.TheVariants as feed
 use Rattle.otp_model.specs.declared.feed_fault.FeedFile.TheVariants as file
 use Rattle.otp_server.specs.declared.refusal.Refusal.{Refusal}
 use Rattle.otp_server.specs.declared.refusal.Refusal.TheVariants as refusal
+use Rattle.otp_server.specs.declared.refusal.Untaken.{Untaken}
+use Rattle.otp_server.specs.declared.refusal.Untaken.TheVariants as untaken
 use Rattle.otp_server.specs.declared.status.Status.{Status}
 use Rattle.otp_server.specs.declared.status.Status.TheVariants as status
 
@@ -22,6 +27,7 @@ number_of status.Feed = 3
 number_of status.Read = 4
 number_of status.Write = 5
 number_of status.Memory = 6
+number_of status.Message = 7
 number_of status.Request = 8
 
 abbrev pub status_of : Refusal → Status
@@ -31,6 +37,8 @@ status_of (refusal.Feed feed.Read) = status.Read
 status_of (refusal.Feed feed.Memory) = status.Memory
 status_of (refusal.Request (target.Query cause parameter)) = status.Request
 status_of (refusal.Request target.Memory) = status.Memory
+status_of (refusal.Message place why) = status.Message
+status_of refusal.Read = status.Read
 status_of refusal.Memory = status.Memory
 
 -- the names of a feed's files, by their numbers
@@ -75,11 +83,64 @@ abbrev pub request_refusal : TargetFault → List ℕ
 request_refusal (target.Query cause parameter) = request_line (cause_name cause) parameter
 request_refusal target.Memory = []
 
+abbrev pub fault_name : MessageFault → List ℕ
+fault_name (message.Wire (wire.Cut at)) = codes "cut"
+fault_name (message.Wire (wire.LongVarint at)) = codes "varint"
+fault_name (message.Wire (wire.Group at)) = codes "group"
+fault_name (message.Wire (wire.ZeroField at)) = codes "zero"
+fault_name (message.Wire wire.Memory) = codes "memory"
+fault_name message.NoHeader = codes "header"
+fault_name message.Differential = codes "differential"
+fault_name (message.NotText at) = codes "text"
+fault_name (message.Repeated at) = codes "repeated"
+fault_name (message.WrongType at) = codes "type"
+fault_name message.Memory = codes "memory"
+
+-- where in the body a fault stands, if it has a place
+abbrev pub fault_offset : MessageFault → Option ℕ
+fault_offset (message.Wire (wire.Cut at)) = Some at
+fault_offset (message.Wire (wire.LongVarint at)) = Some at
+fault_offset (message.Wire (wire.Group at)) = Some at
+fault_offset (message.Wire (wire.ZeroField at)) = Some at
+fault_offset (message.Wire wire.Memory) = None
+fault_offset message.NoHeader = None
+fault_offset message.Differential = None
+fault_offset (message.NotText at) = Some at
+fault_offset (message.Repeated at) = Some at
+fault_offset (message.WrongType at) = Some at
+fault_offset message.Memory = None
+
+abbrev pub untaken_name : Untaken → List ℕ
+untaken_name untaken.Missing = codes "missing"
+untaken_name untaken.Large = codes "large"
+untaken_name (untaken.Older have) = codes "older"
+untaken_name (untaken.Unread fault) = fault_name fault
+
+-- the kept timestamp, or the offset of a fault
+abbrev pub untaken_number : Untaken → Option ℕ
+untaken_number untaken.Missing = None
+untaken_number untaken.Large = None
+untaken_number (untaken.Older have) = Some have
+untaken_number (untaken.Unread fault) = fault_offset fault
+
+abbrev pub number_or_dash : Option ℕ → List ℕ
+number_or_dash None = codes "-"
+number_or_dash (Some number) = decimal number
+
+abbrev pub untaken_detail : Untaken → List ℕ
+untaken_detail why = number_or_dash (untaken_number why)
+
+-- `message I NAME DETAIL`
+abbrev pub message_line : ℕ → List ℕ → List ℕ → List ℕ
+message_line place name detail = codes "message " ++ (decimal place ++ (codes " " ++ (name ++ (codes " " ++ (detail ++ codes "\n")))))
+
 -- the line of a refusal; for want of memory nothing is written
 abbrev pub line_of : Refusal → List ℕ
 line_of refusal.Words = codes "words\n"
 line_of (refusal.Feed fault) = feed_refusal fault
 line_of (refusal.Request fault) = request_refusal fault
+line_of (refusal.Message place why) = message_line place (untaken_name why) (untaken_detail why)
+line_of refusal.Read = codes "read\n"
 line_of refusal.Memory = []
 
 -- `stops=S trips=T runs=R calls=C passed=P`

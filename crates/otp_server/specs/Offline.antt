@@ -37,6 +37,8 @@ abbrev pub IsRefused : Option (List FileEntry) → List (List ℕ) → Refusal �
 IsRefused files words refusal.Words = task_of words ≡ None
 IsRefused files words (refusal.Feed fault) = IsFailed files words (refusal.Feed fault)
 IsRefused files words (refusal.Request fault) = IsFailed files words (refusal.Request fault)
+IsRefused files words (refusal.Message place why) = IsFailed files words (refusal.Message place why)
+IsRefused files words refusal.Read = Unit {0}
 IsRefused files words refusal.Memory = Unit {0}
 
 -- a refusal's status and its line

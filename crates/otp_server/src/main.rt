@@ -1,9 +1,11 @@
-//! The program over the feed of a folder: `check FOLDER` counts what is in it, and `plan FOLDER QUERY` writes
-//! the best journeys of a query.
+//! The program over the feed of a folder: `check FOLDER` counts what is in it, and `plan FOLDER QUERY N=NAME ..` writes
+//! the best journeys of a query once the messages of these files are committed.
 #![tactic(auto)]
 
 mod commands;
+mod committed;
 mod counts;
+mod messages;
 mod offline;
 mod refusal;
 mod reply;

@@ -41,6 +41,7 @@ fn reply<F: Folder>(alloc: Global, words: &[String], folder: &mut F) -> Result<L
     ensures done { IfOk result (IsDone (F.files folder.old) (map string_bytes words.now)) }
     ensures refused { IfErr result (IsRefused (F.files folder.old) (map string_bytes words.now)) }
     ensures cause { result ≡ Err (Refusal.Feed FeedFault.Read) → Rose (F.faults folder.old) (F.faults folder.new) }
+    ensures cause_message { result ≡ Err Refusal.Read → Rose (F.faults folder.old) (F.faults folder.new) }
     ensures unchanged { F.files folder.new ≡ F.files folder.old }
     ensures later { F.faults folder.old ≤ F.faults folder.new }
 {
@@ -55,9 +56,10 @@ fn reply<F: Folder>(alloc: Global, words: &[String], folder: &mut F) -> Result<L
             Command::Plan {
                 folder: path,
                 query,
+                messages,
                 options,
             },
-        ) => plan(alloc, folder, path, &options, query),
+        ) => plan(alloc, folder, path, &options, query, &messages),
         Err(WordsFault::Words) => Err(Refusal::Words),
         Err(WordsFault::Memory) => Err(Refusal::Memory),
     }

@@ -1,11 +1,26 @@
 ghost use Rattle.std.specs.Prelude.{◌≡◌, IfOk, string_bytes};
-ghost use Rattle.otp_server.specs.Lines.{cause_name, feed_line, feed_refusal, line_of, name_of_file, or_dash, request_line, request_refusal, status_of};
+ghost use Rattle.otp_server.specs.Lines.{cause_name, fault_name, fault_offset, feed_line, feed_refusal, line_of, message_line, name_of_file, or_dash, request_line, request_refusal, status_of, untaken_detail, untaken_name, untaken_number};
 
 use crate::status::Status;
 use otp_base::Memory;
 use otp_model::{FeedFault, FeedFile};
+use pb_wire::WireFault;
 use query_form::{QueryFault, TargetFault};
+use rt_reader::MessageFault;
 use std::alloc::{AllocError, Global};
+
+/// Why a message was not taken.
+#[derive(Debug, Drop)]
+pub enum Untaken {
+    /// There is no such file.
+    Missing,
+    /// It has more than 16,777,216 bytes.
+    Large,
+    /// Its timestamp is below `have`, the last one of its feed.
+    Older { have: u64 },
+    /// Its bytes spell no message.
+    Unread(MessageFault),
+}
 
 /// Why a command was not carried out.
 #[derive(Debug, Drop)]
@@ -16,6 +31,10 @@ pub enum Refusal {
     Feed(FeedFault),
     /// The query was not read.
     Request(TargetFault),
+    /// The message of the word at this place, counted from 1, was not taken.
+    Message { place: usize, why: Untaken },
+    /// A read of a message's file failed.
+    Read,
     /// Memory ran out.
     Memory,
 }
@@ -42,6 +61,8 @@ impl Refusal {
             Refusal::Feed(FeedFault::Memory) => Status::Memory,
             Refusal::Request(TargetFault::Query { .. }) => Status::Request,
             Refusal::Request(TargetFault::Memory) => Status::Memory,
+            Refusal::Message { .. } => Status::Message,
+            Refusal::Read => Status::Read,
             Refusal::Memory => Status::Memory,
         }
     }
@@ -54,6 +75,8 @@ impl Refusal {
             Refusal::Words => Ok(String::from_str(alloc, "words\n")?),
             Refusal::Feed(fault) => feed_refusal(alloc, fault),
             Refusal::Request(fault) => request_refusal(alloc, fault),
+            Refusal::Message { place, why } => message_refusal(alloc, *place, why),
+            Refusal::Read => Ok(String::from_str(alloc, "read\n")?),
             Refusal::Memory => Ok(String::new(alloc)),
         }
     }
@@ -90,6 +113,75 @@ fn request_refusal(alloc: Global, fault: &TargetFault) -> Result<String, Memory>
             parameter.as_str(),
         )?),
         TargetFault::Memory => Ok(String::new(alloc)),
+    }
+}
+
+fn message_refusal(alloc: Global, place: usize, why: &Untaken) -> Result<String, Memory>
+    ensures { IfOk result (λ line. string_bytes line ≡ message_line place (untaken_name why.now) (untaken_detail why.now)) }
+{
+    match untaken_number(why) {
+        Some(number) => {
+            Ok(format!(in alloc; "message {place} {} {number}\n", untaken_name(why))?)
+        }
+        None => Ok(format!(in alloc; "message {place} {} -\n", untaken_name(why))?),
+    }
+}
+
+/// The number that is told of a message that was not taken: the offset of its fault, or the kept timestamp.
+fn untaken_number(why: &Untaken) -> Option<u64>
+    ensures { result ≡ untaken_number why.now }
+{
+    match why {
+        Untaken::Missing | Untaken::Large => None,
+        Untaken::Older { have } => Some(*have),
+        Untaken::Unread(fault) => fault_offset(*fault),
+    }
+}
+
+fn untaken_name(why: &Untaken) -> &'static str
+    ensures { result.now ≡ untaken_name why.now }
+{
+    match why {
+        Untaken::Missing => "missing",
+        Untaken::Large => "large",
+        Untaken::Older { .. } => "older",
+        Untaken::Unread(fault) => fault_name(*fault),
+    }
+}
+
+fn fault_offset(fault: MessageFault) -> Option<u64>
+    ensures { result ≡ fault_offset fault }
+{
+    match fault {
+        MessageFault::Wire(WireFault::Cut { at })
+        | MessageFault::Wire(WireFault::LongVarint { at })
+        | MessageFault::Wire(WireFault::Group { at })
+        | MessageFault::Wire(WireFault::ZeroField { at })
+        | MessageFault::NotText { at }
+        | MessageFault::Repeated { at }
+        | MessageFault::WrongType { at } => Some(at as u64),
+        MessageFault::Wire(WireFault::Memory)
+        | MessageFault::NoHeader
+        | MessageFault::Differential
+        | MessageFault::Memory => None,
+    }
+}
+
+fn fault_name(fault: MessageFault) -> &'static str
+    ensures { result.now ≡ fault_name fault }
+{
+    match fault {
+        MessageFault::Wire(WireFault::Cut { .. }) => "cut",
+        MessageFault::Wire(WireFault::LongVarint { .. }) => "varint",
+        MessageFault::Wire(WireFault::Group { .. }) => "group",
+        MessageFault::Wire(WireFault::ZeroField { .. }) => "zero",
+        MessageFault::NoHeader => "header",
+        MessageFault::Differential => "differential",
+        MessageFault::NotText { .. } => "text",
+        MessageFault::Repeated { .. } => "repeated",
+        MessageFault::WrongType { .. } => "type",
+        // Want of memory is told by the status alone.
+        MessageFault::Wire(WireFault::Memory) | MessageFault::Memory => "memory",
     }
 }
 

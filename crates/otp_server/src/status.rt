@@ -16,6 +16,8 @@ pub enum Status {
     Write,
     /// Memory ran out.
     Memory,
+    /// A message is refused.
+    Message,
     /// The query is refused.
     Request,
 }
@@ -32,6 +34,7 @@ impl Status {
             Status::Read => 4,
             Status::Write => 5,
             Status::Memory => 6,
+            Status::Message => 7,
             Status::Request => 8,
         }
     }

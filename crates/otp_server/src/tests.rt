@@ -1,3 +1,4 @@
+mod messages;
 mod replies;
 
 use crate::offline::run_offline;

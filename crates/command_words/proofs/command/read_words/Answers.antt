@@ -3,7 +3,7 @@ use Rattle.std.proofs.lemmas.Result.{err_from_is_err_and}
 use Rattle.clap.specs.Words.{found_of}
 use Rattle.clap.proofs.WalkLemmas.{raw_values-rows}
 use Rattle.command_words.proofs.FoundFacts.{line-read, line-taken}
-use Rattle.command_words.proofs.ReadFacts.{a-command, found-positionals, no-command, no-options}
+use Rattle.command_words.proofs.ReadFacts.{a-command, found-positionals, no-options}
 use Rattle.command_words.proofs.command.read_words.Goals as goal
 
 pub matches_in-requires : goal.matches_in-requires
@@ -15,14 +15,14 @@ returns-in_err-options-clause-refuses c =
     let p = err_from_is_err_and c.from_residual-in_err-options.result c.from_residual-in_err-options.ensures.1 in
     rw (p.1, p.2) (no-options _ _ _ c.in_err-options.field-0.0 task c.in_err-options.ensures.refuses)
 
-pub returns-in-Some-command_of-clause-reads : goal.returns-in-Some-command_of-clause-reads
-returns-in-Some-command_of-clause-reads c =
+pub returns-clause-reads : goal.returns-clause-reads
+returns-clause-reads c =
     let task = line-read _ _ (string_bytes c.in-Some.name.now) c.in_ok-matches.matches (ap (map string_bytes) c.in-Some.ensures.cases.0) (search rules) (search rules) c.in_ok-matches.ensures.ok in
     let on = found-positionals _ _ _ _ refl c.unwrap_or-positionals.ensures (c.get_strs.ensures ∙ raw_values-rows (found_of c.in_ok-matches.matches) (codes "words")) in
-    a-command _ _ _ _ _ _ _ _ task c.as_str.ensures.value on c.in_ok-options.ensures.reads c.in-Some-command_of.ensures.command
+    (a-command _ _ _ _ _ _ _ _ task c.as_str.ensures.value on c.in_ok-options.ensures.reads c.command_of.ensures.command).0
 
 pub returns-clause-refuses : goal.returns-clause-refuses
 returns-clause-refuses c =
     let task = line-read _ _ (string_bytes c.in-Some.name.now) c.in_ok-matches.matches (ap (map string_bytes) c.in-Some.ensures.cases.0) (search rules) (search rules) c.in_ok-matches.ensures.ok in
     let on = found-positionals _ _ _ _ refl c.unwrap_or-positionals.ensures (c.get_strs.ensures ∙ raw_values-rows (found_of c.in_ok-matches.matches) (codes "words")) in
-    no-command _ _ _ _ _ _ _ task c.as_str.ensures.value on c.in_ok-options.ensures.reads c.in-None.ensures.command
+    (a-command _ _ _ _ _ _ _ _ task c.as_str.ensures.value on c.in_ok-options.ensures.reads c.command_of.ensures.command).1

@@ -1,7 +1,9 @@
-use Rattle.std.proofs.Common.{IsSomeAnd, map, refl, string_bytes, subst}
+use Rattle.std.proofs.Common.{IfErr, IfOk, IsSomeAnd, List, map, refl, string_bytes, subst}
 use Rattle.std.proofs.lemmas.Result.{IfErr-weaker, IfOk-weaker}
 use Rattle.command_words.specs.Commands.{IsTask, task_of}
+use Rattle.command_words.specs.Messages.{all_asked}
 use Rattle.command_words.specs.declared.command.Command.{Command}
+use Rattle.command_words.specs.declared.messages.MessageWord.{MessageWord}
 use Rattle.otp_server.specs.Commands.{Checks, IsFeedFault, IsPlanFault, Plans}
 use Rattle.otp_server.specs.Offline.{IsDone, IsRefused}
 use Rattle.otp_server.proofs.AnswerFacts.{check_done, check_refused, plan_done, plan_refused}
@@ -24,13 +26,13 @@ returns-in-Ok-Check-clause-refused g c =
 pub returns-in-Ok-Plan-clause-done : goal.returns-in-Ok-Plan-clause-done
 returns-in-Ok-Plan-clause-done g c =
     let asked = subst (λ (command : Command). IsSomeAnd (task_of (map string_bytes c.args.words.now)) (IsTask command)) c.in-Ok-Plan.field-0-is c.in-Ok-Plan.ensures.reads in
-    IfOk-weaker c.plan.result (Plans (g.F.Folder.files c.args.folder.now) c.in-Ok-Plan.path.now c.in-Ok-Plan.options c.in-Ok-Plan.query.now) (IsDone (g.F.Folder.files c.args.folder.now) (map string_bytes c.args.words.now))
-    (λ text h. plan_done (g.F.Folder.files c.args.folder.now) (map string_bytes c.args.words.now) c.in-Ok-Plan.path c.in-Ok-Plan.query c.in-Ok-Plan.options text _ refl asked h)
-    c.plan.ensures.done
+    IfOk-weaker c.plan.result (Plans (g.F.Folder.files c.args.folder.now) c.in-Ok-Plan.path.now c.in-Ok-Plan.options (all_asked c.in-Ok-Plan.messages.items) c.in-Ok-Plan.query.now) (IsDone (g.F.Folder.files c.args.folder.now) (map string_bytes c.args.words.now))
+    (λ text h. plan_done (g.F.Folder.files c.args.folder.now) (map string_bytes c.args.words.now) c.in-Ok-Plan.path c.in-Ok-Plan.query c.in-Ok-Plan.messages c.in-Ok-Plan.options text _ refl asked h)
+    (subst (λ (messages : List MessageWord). IfOk c.plan.result (Plans (g.F.Folder.files c.args.folder.now) c.in-Ok-Plan.path.now c.in-Ok-Plan.options (all_asked messages) c.in-Ok-Plan.query.now)) c.deref.ensures.value c.plan.ensures.done)
 
 pub returns-in-Ok-Plan-clause-refused : goal.returns-in-Ok-Plan-clause-refused
 returns-in-Ok-Plan-clause-refused g c =
     let asked = subst (λ (command : Command). IsSomeAnd (task_of (map string_bytes c.args.words.now)) (IsTask command)) c.in-Ok-Plan.field-0-is c.in-Ok-Plan.ensures.reads in
-    IfErr-weaker c.plan.result (IsPlanFault (g.F.Folder.files c.args.folder.now) c.in-Ok-Plan.path.now c.in-Ok-Plan.options c.in-Ok-Plan.query.now) (IsRefused (g.F.Folder.files c.args.folder.now) (map string_bytes c.args.words.now))
-    (λ why h. plan_refused (g.F.Folder.files c.args.folder.now) (map string_bytes c.args.words.now) c.in-Ok-Plan.path c.in-Ok-Plan.query c.in-Ok-Plan.options why _ refl asked h)
-    c.plan.ensures.refused
+    IfErr-weaker c.plan.result (IsPlanFault (g.F.Folder.files c.args.folder.now) c.in-Ok-Plan.path.now c.in-Ok-Plan.options (all_asked c.in-Ok-Plan.messages.items) c.in-Ok-Plan.query.now) (IsRefused (g.F.Folder.files c.args.folder.now) (map string_bytes c.args.words.now))
+    (λ why h. plan_refused (g.F.Folder.files c.args.folder.now) (map string_bytes c.args.words.now) c.in-Ok-Plan.path c.in-Ok-Plan.query c.in-Ok-Plan.messages c.in-Ok-Plan.options why _ refl asked h)
+    (subst (λ (messages : List MessageWord). IfErr c.plan.result (IsPlanFault (g.F.Folder.files c.args.folder.now) c.in-Ok-Plan.path.now c.in-Ok-Plan.options (all_asked messages) c.in-Ok-Plan.query.now)) c.deref.ensures.value c.plan.ensures.refused)
