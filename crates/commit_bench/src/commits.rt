@@ -1,0 +1,62 @@
+ghost use Rattle.std.specs.Prelude.{◌≡◌, ◌<◌, IfOk};
+ghost use Rattle.std.specs.List.{AllPairs};
+ghost use Rattle.otp_model.specs.Sound.{IsSound};
+ghost use Rattle.snapshot_store.specs.Changing.{IsChangeBelow};
+ghost use Rattle.commit_bench.specs.Ready.{IsReady};
+
+use crate::stop::Stop;
+use change_buffer::{Buffer, Prepared};
+use otp_base::{Memory, Steps};
+use otp_model::{Change, Feed, Message};
+use snapshot_store::Snapshot;
+use std::alloc::Global;
+use std::sync::ledger::{Blank, Ledger};
+
+/// A buffer of one real-time feed.
+pub fn buffer_of_one(alloc: Global) -> Result<Buffer, Memory>
+    ensures { IfOk result IsReady }
+{
+    Buffer::new(alloc, 1)
+}
+
+/// What a message changes, as the next one of its feed.
+pub fn prepared(
+    alloc: Global,
+    feed: &Feed,
+    buffer: &mut Buffer,
+    message: Message,
+) -> Result<Prepared, Stop>
+    requires sound { IsSound feed.now }
+    requires ready { IsReady buffer.old }
+    ensures ready { IsReady buffer.new }
+    ensures rise { IfOk result (λ prepared. AllPairs IsChangeBelow prepared.changes) }
+{
+    if buffer.offer(1, message).is_err() {
+        return Err(Stop::Older);
+    }
+    Ok(buffer.prepare(alloc, feed)?)
+}
+
+/// The snapshot after changes.
+pub fn applied<L: Ledger>(
+    alloc: Global,
+    snapshot: &Snapshot,
+    changes: &[Change],
+    blank: Blank,
+) -> Result<Snapshot, Memory>
+    requires name { blank.name ≡ L.name }
+    requires parts { blank.parts ≡ L.parts }
+    requires some { 0 < blank.parts }
+    requires rise { AllPairs IsChangeBelow changes.now }
+{
+    let mut steps = Steps::<L>::new(blank);
+    snapshot.with_changes(alloc, changes, &mut steps)
+}
+
+/// Makes what is pending the committed messages.
+pub fn settle(buffer: &mut Buffer)
+    requires { IsReady buffer.old }
+    ensures { IsReady buffer.new }
+{
+    buffer.settle();
+}
