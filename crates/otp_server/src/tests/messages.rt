@@ -42,6 +42,9 @@ T1,08:00:00,09:00:00,1200
 ",
 }];
 
+/// When the day of service starts, 6 May 2024.
+const START: u64 = 1_714_953_600;
+
 /// The words behind the query, the number of commits, and each value: departure, arrival, rides and cost, the times in
 /// seconds of the day.
 type Planned = (&'static str, u32, &'static [(u64, u64, u32, u32)]);
@@ -188,8 +191,8 @@ fn expect(
         "{told}: {text}"
     );
     for (departure, arrival, rides, cost) in values {
-        let arrival = 1_714_953_600 + arrival;
-        let departure = 1_714_953_600 + departure;
+        let arrival = START.wrapping_add(*arrival);
+        let departure = START.wrapping_add(*departure);
         let value = format!(in alloc;
             "\"arrival\":{arrival},\"cost\":{cost},\"departure\":{departure},"
         )?;
