@@ -8,7 +8,8 @@ folder=$(mktemp -d) || exit 1
 trap 'rm -rf "$folder"' EXIT
 bench=$(cd "$(dirname "$0")" && pwd) || exit 1
 cd "$bench/../crates/commit_bench" || exit 1
-rt run >/dev/null 2>&1 || { echo "commit_bench is not built: rt run in crates/commit_bench says why" >&2; exit 1; }
+rt run -- plan data/f counts 1=data/late.pb --zone Etc/UTC=UTC0 --from 20240506 --days 1 >/dev/null 2>&1 ||
+    { echo "commit_bench is not built: rt run in crates/commit_bench says why" >&2; exit 1; }
 python3 "$bench/city.py" "$folder" "$@" || exit 1
 
 # report KIND MOST: the messages of this kind, none of which may take more than so many hundredths of the build.

@@ -1,5 +1,5 @@
 use Rattle.commit_bench.specs.Ready.{IsReady}
 use Rattle.commit_bench.proofs.measure.commit_all.Given as goal
 
-abbrev pub invariant-loop : goal.invariant-loop
-invariant-loop l = IsReady l.buffer
+abbrev pub invariant-loop-word : goal.invariant-loop-word
+invariant-loop-word l = IsReady l.buffer
