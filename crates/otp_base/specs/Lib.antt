@@ -1,11 +1,13 @@
 pub mod Adds
 pub mod Answers
 pub mod Cut
+pub mod Doors
 pub mod EachAt
 pub mod Faults
 pub mod Folder
 pub mod Number
 pub mod Optionals
+pub mod Ports
 pub mod Results
 pub mod Sink
 pub mod Source
