@@ -21,7 +21,7 @@ pub use clock::parse_clock;
 pub use day::parse_day;
 pub use feed_fault::{FeedCause, FeedFault, FeedFile};
 pub use journey::{Cursor, Found, Journey, Leg, Page, Place, Request, Value};
-pub use laws::pages_join;
+pub use laws::{one_history, pages_join};
 pub use links::{TimeRow, TransferRow};
 pub use message::{Commit, Entity, Event, Message, StopUpdate, TripUpdate};
 pub use options::Options;
