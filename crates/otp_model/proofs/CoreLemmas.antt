@@ -1,7 +1,7 @@
 -- Each event keeps what holds of every trace.
-use Rattle.std.proofs.Common.{◌≡◌, ◌==◌, ℕ, zero, suc, ◌+◌, ◌^◌, ◌<◌, ◌≤◌, ◌⊎◌, inl, inr, Bool, true, false, List, [], ◌∷◌, ◌++◌, length, map, drop, Option, Some, None, refl, sym, ap, subst, ◌∙◌, arith, append_assoc, if◌then◌else◌}
+use Rattle.std.proofs.Common.{◌≡◌, ◌==◌, ℕ, zero, suc, ◌+◌, ◌^◌, ◌<◌, ◌≤◌, inl, inr, Bool, true, false, List, [], ◌∷◌, ◌++◌, length, map, drop, Option, Some, None, refl, sym, ap, subst, ◌∙◌, arith, append_assoc, if◌then◌else◌}
 use Rattle.std.specs.Prelude.{nat_le, nat_lt, replicate, slice_get}
-use Rattle.std.specs.List.{All, AllPairs, Contains, find, flat_map}
+use Rattle.std.specs.List.{All, AllPairs, Contains, find}
 use Rattle.std.specs.Option.{option_map, option_map_or}
 use Rattle.std.proofs.lemmas.Bool.Decides.{nat_tests}
 use Rattle.std.proofs.lemmas.Grind.{flat_map-append}
@@ -9,10 +9,10 @@ use Rattle.std.proofs.lemmas.List.{append-nil}
 use Rattle.std.proofs.lemmas.List.Elements.{All-cons, All-contains, All-head, All-nil, All-push, All-tail, All-weaker, Contains-append_left, Contains-append_right, Contains-push}
 use Rattle.std.proofs.lemmas.List.Quantifiers.{all_pairs_push}
 use mathlib.Core.List.{IsPrefix}
-use Rattle.otp_model.specs.Core.{Accept, Answer, AnsweredOver, Core, Entry, Event, Extends, History, Open, Plan, Publish, Query, Response, Session, Silent, Status, Take, Trace, after, answer_response, answered_over, answering, first_known, fresh_session, fresh_trace, keep, keep_for, keep_known, keep_unless, kept_after, kept_at, newest, offered_response, opened, pinned_in, response, taking, trace_from, trace_of, traced, with_session}
+use Rattle.otp_model.specs.Core.{Accept, Answer, Core, Entry, Event, Extends, History, Open, Plan, Publish, Query, Response, Session, Status, Take, Trace, after, answer_response, answering, first_known, fresh_trace, keep, keep_for, keep_known, keep_unless, kept_after, kept_at, newest, offered_response, opened, pinned_in, response, taking, trace_from, traced}
 use Rattle.otp_model.specs.Desk.{Acceptance, Accepted, DeskState, Older, Slot, Spent, above_of, acceptance, accepts, commits, commits_of, counted, emptied, fresh_slot, numbered, offered, offered_at, pending_from, pending_in, published, slot_after, slot_at}
 use Rattle.otp_model.specs.Moves.{first_of}
-use Rattle.otp_model.specs.OneHistory.{AreAnswered, HasOneHistory, IsAnswered, IsAnsweredAfter, IsOneFeed, IsOneHistory, IsOneSession, IsPart, IsPinnedTo, accepted_by, accepted_in, last_of, listed, messages_in, messages_of, pending_at, stamp_of, stamps_of, taken_after, taken_by, taken_in, taken_open, taken_since, under}
+use Rattle.otp_model.specs.OneHistory.{AreAnswered, HasOneHistory, IsAnswered, IsAnsweredAfter, IsOneFeed, IsOneSession, IsPart, accepted_by, accepted_in, last_of, listed, messages_of, pending_at, stamp_of, stamps_of, taken_after, taken_by, taken_in, taken_open, taken_since, under}
 use Rattle.otp_model.specs.declared.message.Commit.{Commit}
 use Rattle.otp_model.specs.declared.message.Message.{Message}
 use Rattle.otp_model.proofs.JudgedLemmas.{by_test}
@@ -111,9 +111,11 @@ answered_push : (before entries : List Entry) (entry : Entry) → AreAnswered be
     → AreAnswered before (entries ++ entry ∷ [])
 unfolding AreAnswered
 answered_push before [] entry h told = (subst (λ z. IsAnsweredAfter z entry.event entry.response) (append-nil before) told, tt)
-answered_push before (first ∷ entries) entry h told =
-    (h.0, answered_push (before ++ first ∷ []) entries entry h.1
-    (subst (λ z. IsAnsweredAfter z entry.event entry.response) (sym (append_assoc before (first ∷ []) entries)) told))
+answered_push before (first ∷ entries) entry h told = (
+  h.0,
+  answered_push (before ++ first ∷ []) entries entry h.1
+      (subst (λ z. IsAnsweredAfter z entry.event entry.response) (sym (append_assoc before (first ∷ []) entries)) told),
+)
 
 -- a session with what it took since it was opened: once it has taken something its pass knows the last of it
 abbrev IsViewed : Bool → List History → List History → Type 0

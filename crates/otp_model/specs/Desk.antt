@@ -2,8 +2,7 @@
 -- the next commit publishes. Each message is a full dataset of its feed, so a later one takes the place of an earlier one that is
 -- still pending (FeedHeader, FULL_DATASET, in the GTFS Realtime reference). That an older message is refused, and the greatest
 -- counts, are this project's own.
-use Rattle.std.specs.Prelude.{ℕ, ◌+◌, ◌^◌, suc, zero, List, [], ◌∷◌, ◌++◌, length, map, replicate, slice_get, Option, None, Some, Bool, true, false, nat_lt, if◌then◌else◌}
-use Rattle.std.specs.List.{list_any}
+use Rattle.std.specs.Prelude.{ℕ, ◌+◌, ◌^◌, suc, zero, List, [], ◌∷◌, ◌++◌, length, map, replicate, slice_get, Option, None, Some, nat_lt, if◌then◌else◌}
 use Rattle.std.specs.Option.{option_map}
 use Rattle.otp_model.specs.Moves.{first_of}
 use Rattle.otp_model.specs.declared.message.Commit.{Commit}
