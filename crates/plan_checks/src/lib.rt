@@ -1,18 +1,13 @@
-//! Tests of the crates that read words and queries, search, and write replies: each public call once with ample memory,
-//! and worked values of what no clause says. They stand apart from those crates, so that none of them is proved a
-//! second time for its tests.
+//! Tests of the crates that read words and queries, search, and read cursors: worked values, and texts that are refused. Whole plans
+//! are tables of the program's own tests.
 #![tactic(auto)]
 
 #[cfg(test)]
+mod cursors;
+#[cfg(test)]
 mod fronts;
 #[cfg(test)]
-mod pages;
-#[cfg(test)]
-mod plans;
-#[cfg(test)]
 mod queries;
-#[cfg(test)]
-mod replies;
 #[cfg(test)]
 mod searches;
 #[cfg(test)]

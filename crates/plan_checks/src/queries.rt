@@ -64,12 +64,8 @@ const PLAIN: Request = Request {
     at_least: 0,
 };
 
-#[test]
-fn asks(rt: HostRuntime) -> Result<(), Fail> {
-    let alloc = rt.alloc();
-    let feed = feed(alloc)?;
-    let edges = edges(alloc);
-    assert!(rt; feed.stops.len() < 100 && edges.profile.scale <= 111_195);
+/// What queries ask for.
+fn asked() -> [(&'static str, Request); 5] {
     let cursor = Cursor {
         commit: 7,
         value: Value {
@@ -79,7 +75,7 @@ fn asks(rt: HostRuntime) -> Result<(), Fail> {
             cost: 4,
         },
     };
-    for (query, expected) in [
+    [
         ("from=stop:A&to=stop:D&time=1714981600", PLAIN),
         // Any order, others passed over, leading zeros, escaped names, empty pairs.
         (
@@ -127,173 +123,190 @@ fn asks(rt: HostRuntime) -> Result<(), Fail> {
                 ..PLAIN
             },
         ),
-    ] {
-        match read_query(alloc, query, &feed, &edges) {
-            Ok(request) => assert_eq!(rt; request, expected),
-            Err(_) => assert!(rt; false),
-        }
+    ]
+}
+
+/// A query, its first fault, and the parameter that is named.
+const FAULTS: [(&str, QueryFault, &str); 37] = [
+    ("", QueryFault::Missing, "from"),
+    ("from=stop:A&time=0", QueryFault::Missing, "to"),
+    ("from=stop:A&to=stop:D", QueryFault::Missing, "time"),
+    (
+        "from=stop:A&to=stop:Q&time=0",
+        QueryFault::UnknownPlace,
+        "to",
+    ),
+    (
+        "from=stop:E&to=stop:D&time=0",
+        QueryFault::UnknownPlace,
+        "from",
+    ),
+    (
+        "from=stop:&to=stop:D&time=0",
+        QueryFault::UnknownPlace,
+        "from",
+    ),
+    (
+        "from=stop:+A&to=stop:D&time=0",
+        QueryFault::UnknownPlace,
+        "from",
+    ),
+    (
+        "from=stop:A%FF&to=stop:D&time=0",
+        QueryFault::UnknownPlace,
+        "from",
+    ),
+    ("from=A&to=stop:D&time=0", QueryFault::Bad, "from"),
+    ("from=&to=stop:D&time=0", QueryFault::Bad, "from"),
+    ("from=at:0&to=stop:D&time=0", QueryFault::Bad, "from"),
+    ("from=at:,&to=stop:D&time=0", QueryFault::Bad, "from"),
+    ("from=at:0,0,0&to=stop:D&time=0", QueryFault::Bad, "from"),
+    (
+        "from=at:90.000001,0&to=stop:D&time=0",
+        QueryFault::Bad,
+        "from",
+    ),
+    (
+        "from=at:0,180.000001&to=stop:D&time=0",
+        QueryFault::Bad,
+        "from",
+    ),
+    (
+        "from=stop:A&to=stop:D&time=10000000000",
+        QueryFault::Bad,
+        "time",
+    ),
+    ("from=stop:A&to=stop:D&time=-1", QueryFault::Bad, "time"),
+    ("from=stop:A&to=stop:D&time=", QueryFault::Bad, "time"),
+    ("from=stop:A&to=stop:D&time=+1", QueryFault::Bad, "time"),
+    (
+        "from=stop:A&to=stop:D&time=0000000000000000000",
+        QueryFault::Bad,
+        "time",
+    ),
+    (
+        "from=stop:A&to=stop:D&time=0&window=86401",
+        QueryFault::Bad,
+        "window",
+    ),
+    (
+        "from=stop:A&to=stop:D&time=0&window=0",
+        QueryFault::Bad,
+        "window",
+    ),
+    (
+        "from=stop:A&to=stop:D&time=0&rides=9",
+        QueryFault::Bad,
+        "rides",
+    ),
+    (
+        "from=stop:A&to=stop:D&time=0&rides=0",
+        QueryFault::Bad,
+        "rides",
+    ),
+    (
+        "from=stop:A&to=stop:D&time=0&slack=3601",
+        QueryFault::Bad,
+        "slack",
+    ),
+    (
+        "from=stop:A&to=stop:D&time=0&walk_points=99",
+        QueryFault::Bad,
+        "walk_points",
+    ),
+    (
+        "from=stop:A&to=stop:D&time=0&walk_points=2001",
+        QueryFault::Bad,
+        "walk_points",
+    ),
+    (
+        "from=stop:A&to=stop:D&time=0&board_points=1000001",
+        QueryFault::Bad,
+        "board_points",
+    ),
+    (
+        "from=stop:A&to=stop:D&time=0&page=0",
+        QueryFault::Bad,
+        "page",
+    ),
+    (
+        "from=stop:A&to=stop:D&time=0&page=201",
+        QueryFault::Bad,
+        "page",
+    ),
+    (
+        "from=stop:A&to=stop:D&time=0&page=1&page=1",
+        QueryFault::Twice,
+        "page",
+    ),
+    (
+        "from=stop:A&to=stop:D&time=0&cursor=v1-0-1-2-3-04",
+        QueryFault::Bad,
+        "cursor",
+    ),
+    (
+        "from=stop:A&to=stop:D&time=0&cursor=",
+        QueryFault::Bad,
+        "cursor",
+    ),
+    (
+        "from=stop:A&to=stop:D&time=0&at_least=1099511627777",
+        QueryFault::Bad,
+        "at_least",
+    ),
+    // The first of two faults, in the order of the parameters; of one, that it stands twice.
+    (
+        "page=0&to=stop:Q&from=stop:A&time=0",
+        QueryFault::UnknownPlace,
+        "to",
+    ),
+    (
+        "at_least=x&cursor=x&from=stop:A&to=stop:D&time=0",
+        QueryFault::Bad,
+        "cursor",
+    ),
+    ("from=x&from=x&to=stop:D&time=0", QueryFault::Twice, "from"),
+];
+
+/// What a query over the feed asks for, or its first fault, where the feed is small.
+fn read(
+    alloc: Global,
+    query: &str,
+    feed: &Feed,
+    edges: &Edges,
+) -> Option<Result<Request, TargetFault>> {
+    if feed.stops.len() > 100 || edges.profile.scale > 111_195 {
+        return None;
     }
-    Ok(())
+    Some(read_query(alloc, query, feed, edges))
+}
+
+fn asks_for(answer: Option<Result<Request, TargetFault>>, wanted: &Request) -> bool {
+    match answer {
+        Some(Ok(request)) => request == *wanted,
+        _ => false,
+    }
+}
+
+fn has_fault(answer: Option<Result<Request, TargetFault>>, wanted: QueryFault, name: &str) -> bool {
+    match answer {
+        Some(Err(TargetFault::Query { cause, parameter })) => {
+            cause == wanted && parameter.as_str() == name
+        }
+        _ => false,
+    }
 }
 
 #[test]
-fn faults(rt: HostRuntime) -> Result<(), Fail> {
+fn reads_queries(rt: HostRuntime) -> Result<(), Fail> {
     let alloc = rt.alloc();
     let feed = feed(alloc)?;
     let edges = edges(alloc);
-    assert!(rt; feed.stops.len() < 100 && edges.profile.scale <= 111_195);
-    for (query, cause, parameter) in [
-        ("", QueryFault::Missing, "from"),
-        ("from=stop:A&time=0", QueryFault::Missing, "to"),
-        ("from=stop:A&to=stop:D", QueryFault::Missing, "time"),
-        (
-            "from=stop:A&to=stop:Q&time=0",
-            QueryFault::UnknownPlace,
-            "to",
-        ),
-        (
-            "from=stop:E&to=stop:D&time=0",
-            QueryFault::UnknownPlace,
-            "from",
-        ),
-        (
-            "from=stop:&to=stop:D&time=0",
-            QueryFault::UnknownPlace,
-            "from",
-        ),
-        (
-            "from=stop:+A&to=stop:D&time=0",
-            QueryFault::UnknownPlace,
-            "from",
-        ),
-        (
-            "from=stop:A%FF&to=stop:D&time=0",
-            QueryFault::UnknownPlace,
-            "from",
-        ),
-        ("from=A&to=stop:D&time=0", QueryFault::Bad, "from"),
-        ("from=&to=stop:D&time=0", QueryFault::Bad, "from"),
-        ("from=at:0&to=stop:D&time=0", QueryFault::Bad, "from"),
-        ("from=at:,&to=stop:D&time=0", QueryFault::Bad, "from"),
-        ("from=at:0,0,0&to=stop:D&time=0", QueryFault::Bad, "from"),
-        (
-            "from=at:90.000001,0&to=stop:D&time=0",
-            QueryFault::Bad,
-            "from",
-        ),
-        (
-            "from=at:0,180.000001&to=stop:D&time=0",
-            QueryFault::Bad,
-            "from",
-        ),
-        (
-            "from=stop:A&to=stop:D&time=10000000000",
-            QueryFault::Bad,
-            "time",
-        ),
-        ("from=stop:A&to=stop:D&time=-1", QueryFault::Bad, "time"),
-        ("from=stop:A&to=stop:D&time=", QueryFault::Bad, "time"),
-        ("from=stop:A&to=stop:D&time=+1", QueryFault::Bad, "time"),
-        (
-            "from=stop:A&to=stop:D&time=0000000000000000000",
-            QueryFault::Bad,
-            "time",
-        ),
-        (
-            "from=stop:A&to=stop:D&time=0&window=86401",
-            QueryFault::Bad,
-            "window",
-        ),
-        (
-            "from=stop:A&to=stop:D&time=0&window=0",
-            QueryFault::Bad,
-            "window",
-        ),
-        (
-            "from=stop:A&to=stop:D&time=0&rides=9",
-            QueryFault::Bad,
-            "rides",
-        ),
-        (
-            "from=stop:A&to=stop:D&time=0&rides=0",
-            QueryFault::Bad,
-            "rides",
-        ),
-        (
-            "from=stop:A&to=stop:D&time=0&slack=3601",
-            QueryFault::Bad,
-            "slack",
-        ),
-        (
-            "from=stop:A&to=stop:D&time=0&walk_points=99",
-            QueryFault::Bad,
-            "walk_points",
-        ),
-        (
-            "from=stop:A&to=stop:D&time=0&walk_points=2001",
-            QueryFault::Bad,
-            "walk_points",
-        ),
-        (
-            "from=stop:A&to=stop:D&time=0&board_points=1000001",
-            QueryFault::Bad,
-            "board_points",
-        ),
-        (
-            "from=stop:A&to=stop:D&time=0&page=0",
-            QueryFault::Bad,
-            "page",
-        ),
-        (
-            "from=stop:A&to=stop:D&time=0&page=201",
-            QueryFault::Bad,
-            "page",
-        ),
-        (
-            "from=stop:A&to=stop:D&time=0&page=1&page=1",
-            QueryFault::Twice,
-            "page",
-        ),
-        (
-            "from=stop:A&to=stop:D&time=0&cursor=v1-0-1-2-3-04",
-            QueryFault::Bad,
-            "cursor",
-        ),
-        (
-            "from=stop:A&to=stop:D&time=0&cursor=",
-            QueryFault::Bad,
-            "cursor",
-        ),
-        (
-            "from=stop:A&to=stop:D&time=0&at_least=1099511627777",
-            QueryFault::Bad,
-            "at_least",
-        ),
-        // The first of two faults, in the order of the parameters; of one, that it stands twice.
-        (
-            "page=0&to=stop:Q&from=stop:A&time=0",
-            QueryFault::UnknownPlace,
-            "to",
-        ),
-        (
-            "at_least=x&cursor=x&from=stop:A&to=stop:D&time=0",
-            QueryFault::Bad,
-            "cursor",
-        ),
-        ("from=x&from=x&to=stop:D&time=0", QueryFault::Twice, "from"),
-    ] {
-        match read_query(alloc, query, &feed, &edges) {
-            Err(
-                TargetFault::Query {
-                    cause: found,
-                    parameter: name,
-                },
-            ) => {
-                assert_eq!(rt; found, cause);
-                assert_eq!(rt; name.as_str(), parameter);
-            }
-            _ => assert!(rt; false),
-        }
+    for (query, wanted) in &asked() {
+        assert!(rt; asks_for(read(alloc, query, &feed, &edges), wanted), "{query}");
+    }
+    for (query, wanted, name) in FAULTS {
+        assert!(rt; has_fault(read(alloc, query, &feed, &edges), wanted, name), "{query}");
     }
     Ok(())
 }

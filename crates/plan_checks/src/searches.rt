@@ -1,11 +1,10 @@
 use otp_base::{List, Text};
 use otp_model::{
-    Call, Edge, Edges, Found, Leg, Place, Profile, Request, Run, RunName, Stop, StopNo, TripName,
+    Call, Edge, Edges, Found, Place, Profile, Request, Run, RunName, Stop, StopNo, TripName,
     Value,
 };
 use plain_search::all_best;
 use std::alloc::Global;
-use std::cmp::Ordering;
 use std::process::Abort;
 use std::test::Fail;
 
@@ -220,37 +219,4 @@ fn keeps_each_best_value(rt: HostRuntime) -> Result<(), Fail> {
             value(28_200, 29_200, 1, 160_000),
         ],
     )
-}
-
-#[test]
-fn tells_the_legs(rt: HostRuntime) -> Result<(), Fail> {
-    let alloc = rt.alloc();
-    let runs = timetable(alloc)?;
-    let edges = edges(alloc, 0)?;
-    let found = search(&rt, alloc, &runs, &edges, &a_to_d())?;
-    assert_eq!(rt; found.len(), 2);
-    let [
-        Leg::Walk { seconds: 0 },
-        Leg::Ride {
-            name: first,
-            alight,
-            ..
-        },
-        Leg::Walk { seconds: 419 },
-        Leg::Ride {
-            name: second,
-            board,
-            ..
-        },
-        Leg::Walk { seconds: 0 },
-    ] = found[0].journey.legs.as_slice()
-    else {
-        assert!(rt; false, "other legs");
-        return Ok(());
-    };
-    assert_eq!(rt; first.compare(&name_of(0)), Ordering::Equal);
-    assert_eq!(rt; *alight, call(B, 29_400));
-    assert_eq!(rt; second.compare(&name_of(1)), Ordering::Equal);
-    assert_eq!(rt; *board, call(C, 30_000));
-    Ok(())
 }
