@@ -56,6 +56,10 @@ const OTHERS: [&str; 20] = [
     "v1-0-1-2-3-1234567890123456789",
 ];
 
+fn others() -> &'static [&'static str] {
+    &OTHERS
+}
+
 /// Whether the text is that of the cursor, and is read as it.
 fn is_text_of(alloc: Global, text: &str, cursor: &Cursor) -> Result<bool, Memory> {
     if !fits_text(cursor) {
@@ -71,7 +75,7 @@ fn reads_and_writes_cursors(rt: HostRuntime) -> Result<(), Fail> {
     for (text, cursor) in &CURSORS {
         assert!(rt; is_text_of(alloc, text, cursor)?, "{text}");
     }
-    for text in OTHERS {
+    for text in others() {
         assert!(rt; read_cursor(text).is_none(), "{text}");
     }
     Ok(())

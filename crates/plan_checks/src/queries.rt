@@ -268,6 +268,10 @@ const FAULTS: [(&str, QueryFault, &str); 37] = [
     ("from=x&from=x&to=stop:D&time=0", QueryFault::Twice, "from"),
 ];
 
+fn faults() -> &'static [(&'static str, QueryFault, &'static str)] {
+    &FAULTS
+}
+
 /// What a query over the feed asks for, or its first fault, where the feed is small.
 fn read(
     alloc: Global,
@@ -305,8 +309,8 @@ fn reads_queries(rt: HostRuntime) -> Result<(), Fail> {
     for (query, wanted) in &asked() {
         assert!(rt; asks_for(read(alloc, query, &feed, &edges), wanted), "{query}");
     }
-    for (query, wanted, name) in FAULTS {
-        assert!(rt; has_fault(read(alloc, query, &feed, &edges), wanted, name), "{query}");
+    for (query, wanted, name) in faults() {
+        assert!(rt; has_fault(read(alloc, query, &feed, &edges), *wanted, name), "{query}");
     }
     Ok(())
 }

@@ -45,6 +45,10 @@ const REFUSED: [&str; 20] = [
     "check|f|--zone|Etc/UTC=UTC0",
 ];
 
+fn refused() -> &'static [&'static str] {
+    &REFUSED
+}
+
 const MESSAGES: [MessageWord<'static>; 2] = [
     MessageWord {
         feed_no: 16,
@@ -95,7 +99,7 @@ fn reads_words(rt: HostRuntime) -> Result<(), Fail> {
         Ok(command) => assert!(rt; is_the_plan(&command)),
         Err(_) => assert!(rt; false, "no plan"),
     }
-    for line in REFUSED {
+    for line in refused() {
         assert!(rt; are_refused(alloc, line)?, "{line}");
     }
     Ok(())
