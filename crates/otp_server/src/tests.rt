@@ -6,7 +6,8 @@ use crate::status::Status;
 use otp_base::{List, MemoryFolder, MemorySink};
 use replies::{
     BEFORE_THE_DAY, BEHIND_MIDNIGHT, BETWEEN_TIMES, BOTH, BY_RIDE, BY_STARTS, EARLIER_TRIP,
-    FIRST_PAGE, FROM_A_POINT, NOTHING, SECOND_PAGE, START_BEHIND_MIDNIGHT,
+    FIRST_PAGE, FROM_A_POINT, MOVED_AND_BEHIND, NOTHING, ON_FOOT, SECOND_PAGE,
+    START_BEHIND_MIDNIGHT,
 };
 use std::alloc::Global;
 use std::process::Abort;
@@ -28,7 +29,7 @@ struct Case {
 }
 
 /// `check f` over the feed with one file changed.
-const CHECKS: [(&str, &str, Status, &str); 13] = [
+const CHECKS: [(&str, &str, Status, &str); 16] = [
     ("", "", Status::Done, COUNTS),
     // A byte order mark, and a field in quotes.
     (
@@ -140,10 +141,40 @@ T2,08:00:00,08:00:00,60
         Status::Done,
         "stops=4 trips=3 runs=5 calls=14 passed=0\n",
     ),
+    // Of seven days from a Monday on its weekdays are Monday, Tuesday and Sunday, and the last is after its end.
+    (
+        "f/calendar.txt",
+        "service_id,monday,tuesday,wednesday,thursday,friday,saturday,sunday,start_date,end_date
+S,1,1,0,0,0,0,1,20240501,20240511
+",
+        Status::Done,
+        "stops=4 trips=3 runs=6 calls=14 passed=0\n",
+    ),
+    // Two days are added, and the Monday is removed.
+    (
+        "f/calendar_dates.txt",
+        "service_id,date,exception_type
+S,20240507,1
+S,20240508,1
+S,20240506,2
+",
+        Status::Done,
+        "stops=4 trips=3 runs=6 calls=14 passed=0\n",
+    ),
+    // A trip whose last call has no times.
+    (
+        "f/stop_times.txt",
+        "trip_id,arrival_time,departure_time,stop_id,stop_sequence
+T1,08:00:00,08:00:00,A,1
+T1,,,B,2
+",
+        Status::Feed,
+        "feed 10 stop_times.txt 2 arrival_time\n",
+    ),
 ];
 
 /// Commands over the feed with some files changed.
-const PLANS: [Case; 24] = [
+const PLANS: [Case; 26] = [
     Case {
         changes: &[],
         line: "plan f from=stop:A&to=stop:D&time=1714981600&window=1800&page=1",
@@ -161,6 +192,19 @@ const PLANS: [Case; 24] = [
         line: "plan f from=stop:A&to=stop:D&time=1714981600&window=1800&page=1&cursor=v1-0-1714982400-1714984800-1-300000",
         status: Status::Done,
         output: NOTHING,
+    },
+    // The cursor is of another commit, and the client was told of a later one.
+    Case {
+        changes: &[],
+        line: "plan f from=stop:A&to=stop:D&time=1714981600&window=1800&cursor=v1-7-1714982400-1714984800-1-300000&at_least=8",
+        status: Status::Done,
+        output: MOVED_AND_BEHIND,
+    },
+    Case {
+        changes: &[],
+        line: "plan f from=stop:B&to=stop:C&time=1714981600&window=60",
+        status: Status::Done,
+        output: ON_FOOT,
     },
     Case {
         changes: &[],
@@ -367,6 +411,14 @@ T1,23:50:00,24:10:00,600
     },
 ];
 
+fn check_cases() -> &'static [(&'static str, &'static str, Status, &'static str)] {
+    &CHECKS
+}
+
+fn plan_cases() -> &'static [Case] {
+    &PLANS
+}
+
 fn words(alloc: Global, line: &str) -> Result<Vec<String>, Fail> {
     let mut words = Vec::new(alloc);
     for word in line.split(' ') {
@@ -423,9 +475,9 @@ fn folder(alloc: Global, changes: &[SampleFile], fails: &[u64]) -> Result<Memory
 #[test]
 fn checks(rt: HostRuntime) -> Result<(), Fail> {
     let alloc = rt.alloc();
-    for (name, text, status, output) in CHECKS {
+    for (name, text, status, output) in check_cases() {
         let mut folder = folder(alloc, &[SampleFile { name, text }], &[])?;
-        expect(&rt, alloc, &mut folder, &[], "check f", status, output)?;
+        expect(&rt, alloc, &mut folder, &[], "check f", *status, output)?;
     }
     Ok(())
 }
@@ -433,7 +485,7 @@ fn checks(rt: HostRuntime) -> Result<(), Fail> {
 #[test]
 fn plans(rt: HostRuntime) -> Result<(), Fail> {
     let alloc = rt.alloc();
-    for case in PLANS {
+    for case in plan_cases() {
         let mut folder = folder(alloc, case.changes, &[])?;
         expect(
             &rt,

@@ -49,7 +49,7 @@ const START: u64 = 1_714_953_600;
 /// seconds of the day.
 type Planned = (&'static str, u32, &'static [(u64, u64, u32, u32)]);
 
-const PLANNED: [Planned; 10] = [
+const PLANNED: &[Planned] = &[
     // T1 is 61 seconds late at B, and the change to T2 is just caught.
     (
         "1=late61",
@@ -95,7 +95,7 @@ const PLANNED: [Planned; 10] = [
 ];
 
 /// The same of T1's three starts, over an hour.
-const STARTED: [Planned; 2] = [
+const STARTED: &[Planned] = &[
     (
         "1=start",
         1,
@@ -128,6 +128,22 @@ const REFUSED: [(&str, &str, usize); 5] = [
     ("1=at100 2=at99 1=cut --feeds 2", "message 3 cut 0\n", 0),
 ];
 
+fn planned_cases() -> &'static [Planned] {
+    PLANNED
+}
+
+fn started_cases() -> &'static [Planned] {
+    STARTED
+}
+
+fn refused_cases() -> &'static [(&'static str, &'static str, usize)] {
+    &REFUSED
+}
+
+fn message_files() -> &'static [(&'static str, &'static [u8])] {
+    &FILES
+}
+
 fn entry(alloc: Global, name: &str, bytes: Vec<u8>) -> Result<FileEntry, Fail> {
     Ok(FileEntry {
         name: Text::from_str(alloc, name)?,
@@ -142,7 +158,7 @@ fn with_messages(
     large: usize,
 ) -> Result<MemoryFolder, Fail> {
     let mut entries = folder(alloc, changes, &[])?.files;
-    for (name, bytes) in FILES {
+    for (name, bytes) in message_files() {
         entries.push(entry(alloc, name, Vec::from_slice(alloc, bytes)?)?)?;
     }
     entries.push(entry(alloc, "large", vec![in alloc; 0u8; large]?)?)?;
@@ -205,11 +221,11 @@ fn expect(
 #[test]
 fn plans_after_messages(rt: HostRuntime) -> Result<(), Fail> {
     let alloc = rt.alloc();
-    for case in PLANNED {
-        expect(&rt, alloc, &[], 1_800, case)?;
+    for case in planned_cases() {
+        expect(&rt, alloc, &[], 1_800, *case)?;
     }
-    for case in STARTED {
-        expect(&rt, alloc, THREE_STARTS, 3_600, case)?;
+    for case in started_cases() {
+        expect(&rt, alloc, THREE_STARTS, 3_600, *case)?;
     }
     Ok(())
 }
@@ -217,11 +233,11 @@ fn plans_after_messages(rt: HostRuntime) -> Result<(), Fail> {
 #[test]
 fn refuses_messages(rt: HostRuntime) -> Result<(), Fail> {
     let alloc = rt.alloc();
-    for (told, output, large) in REFUSED {
+    for (told, output, large) in refused_cases() {
         let line = format!(in alloc;
             "plan f from=stop:A&to=stop:D&time=1714981600&window=1800 {told}"
         )?;
-        let bytes = planned(&rt, alloc, &[], &line, Status::Message, large)?;
+        let bytes = planned(&rt, alloc, &[], &line, Status::Message, *large)?;
         assert!(rt; bytes.as_slice() == output.as_bytes(), "{told}");
     }
     Ok(())

@@ -6,6 +6,18 @@ pub const NOTHING: &str = r#"
      "more": false, "moved": false, "next": null}
 "#;
 
+/// The same for a cursor of another commit, and a client that was told of a later one.
+pub const MOVED_AND_BEHIND: &str = r#"
+    {"behind": true, "commit": 0, "direct": null, "journeys": [],
+     "more": false, "moved": true, "next": null}
+"#;
+
+/// A walk of 557 metres, and no ride.
+pub const ON_FOOT: &str = r#"
+    {"behind": false, "commit": 0, "direct": 419, "journeys": [],
+     "more": false, "moved": false, "next": null}
+"#;
+
 /// The first of two journeys, and more to come.
 pub const FIRST_PAGE: &str = r#"
     {"behind": false, "commit": 0, "direct": null, "journeys": [
