@@ -1,11 +1,11 @@
 -- What stands at the front of a stream, from what is held of it.
-use Rattle.std.proofs.Common.{◌≡◌, ℕ, ◌<◌, ◌≤◌, inl, inr, List, ◌++◌, length, take, drop, min, Option, Some, None, sym, ap, subst, ◌∙◌, append_assoc, arith, length-append}
+use Rattle.std.proofs.Common.{◌≡◌, ℕ, ◌<◌, ◌≤◌, inl, inr, refl, List, [], ◌∷◌, ◌++◌, length, take, drop, min, Option, Some, None, sym, ap, subst, ◌∙◌, append_assoc, arith, length-append}
 use Rattle.std.proofs.lemmas.Bool.{cases_lt}
 use Rattle.std.proofs.lemmas.List.{append-nil, take-append-drop, take_at, drop_at, take_all, drop_all, length-take-le}
 use Rattle.http_read.specs.Lines.{HasNoMark, IsSpent, HasHead}
 use Rattle.http_read.specs.Head.{StartOf}
 use Rattle.http_read.specs.Item.{RequestAt, EndsInBody, kept_body}
-use Rattle.http_read.specs.Held.{Stays, KeepsTelling, IsShorter, AsksFor, BodyFollows, Answers}
+use Rattle.http_read.specs.Held.{Stays, KeepsTelling, IsShorter, IsUnfinished, ReadsFewer, AsksFor, BodyFollows, Answers}
 use Rattle.http_read.specs.declared.head.Asked.{Asked}
 use Rattle.http_read.specs.declared.head.Start.TheVariants as start
 use Rattle.http_read.specs.declared.request.HttpRequest.{HttpRequest}
@@ -35,11 +35,16 @@ answers_spent None (Some after) before held s f = s
 answers_spent (Some left) None before held s f = s
 answers_spent (Some left) (Some after) before held s f = inl (subst HasNoMark (sym s) (f.0 after), subst IsSpent (sym s) (spent_more held after f.1))
 
-pub answers_failed : (left after : Option (List ℕ)) (before held : List ℕ) → KeepsTelling left after → Answers left before after held next.ReadFault
-answers_failed None None before held k = tt
-answers_failed None (Some after) before held k = k
-answers_failed (Some left) None before held k = k
-answers_failed (Some left) (Some after) before held k = tt
+-- with no mark in what was read, it is unfinished
+unfinished : (read : List ℕ) → HasNoMark read → (IsSpent read → ⊥) → IsUnfinished read
+unfinished [] none few = inl refl
+unfinished (b ∷ bytes) none few = inr (inl (record { some = omega arith; no_mark = none; not_spent = few }))
+
+pub answers_failed : (left after : Option (List ℕ)) (before held : List ℕ) → Stays left before after held → HasNoMark held × (IsSpent held → ⊥) → Answers left before after held next.ReadFault
+answers_failed None None before held s f = tt
+answers_failed None (Some after) before held s f = s
+answers_failed (Some left) None before held s f = s
+answers_failed (Some left) (Some after) before held s f = (held, s, unfinished held f.0 f.1)
 
 pub answers_memory : (left after : Option (List ℕ)) (before held : List ℕ) → KeepsTelling left after → Answers left before after held next.Memory
 answers_memory None None before held k = tt
@@ -101,12 +106,18 @@ keeps_short None (Some after) before size s = s
 keeps_short (Some left) None before size s = s
 keeps_short (Some left) (Some after) before size s = tt
 
+keeps_fewer : (left after : Option (List ℕ)) (before : List ℕ) (size : ℕ) → ReadsFewer left before after size → KeepsTelling left after
+keeps_fewer None None before size s = tt
+keeps_fewer None (Some after) before size s = s
+keeps_fewer (Some left) None before size s = s
+keeps_fewer (Some left) (Some after) before size s = tt
+
 keeps_body : (left after : Option (List ℕ)) (before now : List ℕ) (asked : Asked) (answer : Next) → BodyFollows left before after now asked answer → KeepsTelling left after
 keeps_body left after before now asked (next.Request request) b = keeps_stays left after before (b.0 ++ now) b.1
 keeps_body left after before now asked next.End b = absurd b
 keeps_body left after before now asked (next.Refused f) b = absurd b
 keeps_body left after before now asked next.CutShort b = keeps_short left after before asked.length b
-keeps_body left after before now asked next.ReadFault b = b
+keeps_body left after before now asked next.ReadFault b = keeps_fewer left after before asked.length b
 keeps_body left after before now asked next.Memory b = b
 
 -- reading the body behind a head answers for the whole
@@ -122,7 +133,11 @@ answers_asked (Some left) (Some after) (Some last) before held now size lines as
 answers_asked (Some left) (Some after) (Some last) before held now size lines asked (next.Refused f) s h few t b = absurd b
 answers_asked (Some left) (Some after) (Some last) before held now size lines asked next.CutShort s h few t b =
     inr (ends_in_body (before ++ left) held after size lines asked s h few t b)
-answers_asked (Some left) (Some after) (Some last) before held now size lines asked next.ReadFault s h few t b = tt
+answers_asked (Some left) (Some after) (Some last) before held now size lines asked next.ReadFault s h few t b = (
+  held ++ b.0,
+  s ∙ (ap (λ z. held ++ z) b.1 ∙ sym (append_assoc held b.0 last)),
+  inr (inr (ends_in_body (held ++ b.0) held b.0 size lines asked refl h few t b.2)),
+)
 answers_asked (Some left) (Some after) (Some last) before held now size lines asked next.Memory s h few t b = tt
 
 -- a body whose front was held
@@ -143,3 +158,22 @@ whole_body (Some left) (Some after) held front body n size few is s long =
           let same : front ≡ held = is ∙ take_all n held all in
           ap (λ z. z ++ left) (sym same) ∙ (s ∙ ap (λ z. z ++ after) (sym (ap (λ z. body ++ z) (drop_all n held all) ∙ append-nil body)))
     ]
+
+-- a body that is not whole has all that was held
+pub fewer_body : (left after : Option (List ℕ)) (held front body : List ℕ) (n size : ℕ) → n ≡ min (length held) size → front ≡ take n held → Stays left front after body → length body < size → take (length front) body ≡ front → ReadsFewer left held after size
+fewer_body None None held front body n size few is s short begins = tt
+fewer_body None (Some after) held front body n size few is s short begins = s
+fewer_body (Some left) None held front body n size few is s short begins = s
+fewer_body (Some left) (Some after) held front body n size few is s short begins =
+    let read = drop (length front) body in
+    let whole : front ++ read ≡ body = ap (λ z. z ++ read) (sym begins) ∙ take-append-drop (length front) body in
+    let rest : left ≡ read ++ after = sym (drop_at front left (length front) refl) ∙ (ap (drop (length front)) (s ∙ (ap (λ z. z ++ after) (sym whole) ∙ append_assoc front read after)) ∙ drop_at front (read ++ after) (length front) refl) in
+    let sizes = length-append front read in
+    let size_is = ap length whole in
+    let front_is : length front ≡ length (take n held) = ap length is in
+    let all : length held ≤ n = elim (cases_lt size (length held)) [
+      | inl more ↦ let cut = length-take-le n held (omega arith) in absurd (omega arith)
+      | inr less ↦ omega arith
+    ] in
+    let same : front ≡ held = is ∙ take_all n held all in
+    (read, rest, subst (λ z. length z < size) (sym whole ∙ ap (λ z. z ++ read) same) short)

@@ -1,5 +1,5 @@
 -- What a call makes of the bytes that are held and of those that the source has left.
-use Rattle.std.specs.Prelude.{◌≡◌, ℕ, ◌<◌, ◌≤◌, Option, Some, None, List, [], ◌++◌, length, take}
+use Rattle.std.specs.Prelude.{◌≡◌, ℕ, ◌<◌, ◌≤◌, ◌⊎◌, Option, Some, None, List, [], ◌++◌, length, take}
 use Rattle.http_read.specs.Item.{Item, kept_body}
 use Rattle.http_read.specs.Lines.{HasNoMark, IsSpent, HasHead}
 use Rattle.http_read.specs.declared.buffered.Filled.{Filled}
@@ -36,7 +36,7 @@ NoneLeft (Some left) = left ≡ []
 abbrev pub Fills : Option (List ℕ) → List ℕ → Option (List ℕ) → List ℕ → Filled → Type 0
 Fills left before after now filled.More = Stays left before after now × (length before < length now) × (take (length before) now ≡ before)
 Fills left before after now filled.End = Stays left before after now × NoneLeft after × (now ≡ before)
-Fills left before after now filled.Failed = KeepsTelling left after
+Fills left before after now filled.Failed = Stays left before after now × (now ≡ before)
 Fills left before after now filled.Memory = KeepsTelling left after
 
 -- what is held once the front was looked at for a mark
@@ -45,7 +45,7 @@ IsAhead held (ahead.Head size lines) = (size ≤ length held) × HasHead held (t
 IsAhead held ahead.Spent = ((more : List ℕ) → HasNoMark (held ++ more)) × IsSpent held
 IsAhead held ahead.End = held ≡ []
 IsAhead held ahead.CutShort = (0 < length held) × HasNoMark held × (IsSpent held → ⊥)
-IsAhead held ahead.ReadFault = Unit {0}
+IsAhead held ahead.ReadFault = HasNoMark held × (IsSpent held → ⊥)
 IsAhead held ahead.Memory = Unit {0}
 
 abbrev pub LooksAhead : Option (List ℕ) → List ℕ → Option (List ℕ) → List ℕ → Ahead → Type 0
@@ -53,17 +53,22 @@ LooksAhead left before after now (ahead.Head size lines) = Stays left before aft
 LooksAhead left before after now ahead.Spent = Stays left before after now
 LooksAhead left before after now ahead.End = Stays left before after now × NoneLeft after
 LooksAhead left before after now ahead.CutShort = Stays left before after now × NoneLeft after
-LooksAhead left before after now ahead.ReadFault = KeepsTelling left after
+LooksAhead left before after now ahead.ReadFault = Stays left before after now
 LooksAhead left before after now ahead.Memory = KeepsTelling left after
 
 -- what reading so many bytes gives
 abbrev pub ReadsRest : ℕ → Option (List ℕ) → List ℕ → Option (List ℕ) → List ℕ → Rest → Type 0
 ReadsRest size left before after now rest.Whole = Stays left before after now × (length now ≡ size)
 ReadsRest size left before after now rest.CutShort = Stays left before after now × NoneLeft after × (length now < size)
-ReadsRest size left before after now rest.ReadFault = KeepsTelling left after
+ReadsRest size left before after now rest.ReadFault = Stays left before after now × (length now < size) × (take (length before) now ≡ before)
 ReadsRest size left before after now rest.Memory = KeepsTelling left after
 
+-- the bytes end before a request or inside one, so neither a whole request nor a refused head stands at their front
+abbrev pub IsUnfinished : List ℕ → Type 0
+IsUnfinished bytes = (bytes ≡ []) ⊎ Item bytes next.CutShort []
+
 -- The answer is the item of the bytes that were held and left, and after a request the bytes after it are held and left.
+-- Where a read failed, the bytes that were held and read are unfinished.
 abbrev pub Answers : Option (List ℕ) → List ℕ → Option (List ℕ) → List ℕ → Next → Type 0
 Answers None before None now answer = Unit {0}
 Answers None before (Some after) now answer = ⊥
@@ -72,7 +77,7 @@ Answers (Some left) before (Some after) now (next.Request request) = Item (befor
 Answers (Some left) before (Some after) now next.End = Item (before ++ left) next.End []
 Answers (Some left) before (Some after) now (next.Refused f) = Item (before ++ left) (next.Refused f) []
 Answers (Some left) before (Some after) now next.CutShort = Item (before ++ left) next.CutShort []
-Answers (Some left) before (Some after) now next.ReadFault = Unit {0}
+Answers (Some left) before (Some after) now next.ReadFault = (read : List ℕ) × (before ++ left ≡ read ++ after) × IsUnfinished read
 Answers (Some left) before (Some after) now next.Memory = Unit {0}
 
 -- what the end of the input says of what is held
@@ -98,11 +103,18 @@ IsShorter None before (Some after) size = ⊥
 IsShorter (Some left) before None size = ⊥
 IsShorter (Some left) before (Some after) size = length (before ++ left) < size
 
+-- fewer bytes than these were held and read, where the source tells what it has left
+abbrev pub ReadsFewer : Option (List ℕ) → List ℕ → Option (List ℕ) → ℕ → Type 0
+ReadsFewer None before None size = Unit {0}
+ReadsFewer None before (Some after) size = ⊥
+ReadsFewer (Some left) before None size = ⊥
+ReadsFewer (Some left) before (Some after) size = (read : List ℕ) × (left ≡ read ++ after) × (length (before ++ read) < size)
+
 -- what reading a body that follows its head gives
 abbrev pub BodyFollows : Option (List ℕ) → List ℕ → Option (List ℕ) → List ℕ → Asked → Next → Type 0
 BodyFollows left before after now asked (next.Request request) = (body : List ℕ) × Stays left before after (body ++ now) × (length body ≡ asked.length) × AsksFor asked body request
 BodyFollows left before after now asked next.End = ⊥
 BodyFollows left before after now asked (next.Refused f) = ⊥
 BodyFollows left before after now asked next.CutShort = IsShorter left before after asked.length
-BodyFollows left before after now asked next.ReadFault = KeepsTelling left after
+BodyFollows left before after now asked next.ReadFault = ReadsFewer left before after asked.length
 BodyFollows left before after now asked next.Memory = KeepsTelling left after

@@ -20,7 +20,8 @@ pub fn buffer(alloc: Global) -> Result<Buffer, Memory>
 /// Reads the next request off what the buffer holds and the source has left.
 ///
 /// A request leaves in the buffer what was read behind it. After any other answer the buffer is given
-/// up. No read is asked for once the answer is known.
+/// up. No read is asked for once the answer is known, so where a read failed, the bytes that were held and
+/// read end before a request or inside one.
 pub fn next_request<S: Source>(alloc: Global, source: &mut S, buffer: &mut Buffer) -> Next
     ensures item { Answers (S.left source.old) buffer.old (S.left source.new) buffer.new result }
     ensures room { length buffer.new ≤ 24576 }

@@ -28,7 +28,7 @@ returns-in-Spent-clause-item g c =
     answers_spent _ _ c.args.buffer.now c.look_ahead.new.buffer c.in-Spent.ensures.stream c.in-Spent.ensures.found
 
 pub returns-in-ReadFault-clause-item : goal.returns-in-ReadFault-clause-item
-returns-in-ReadFault-clause-item g c = answers_failed _ _ c.args.buffer.now c.look_ahead.new.buffer c.in-ReadFault.ensures.stream
+returns-in-ReadFault-clause-item g c = answers_failed _ _ c.args.buffer.now c.look_ahead.new.buffer c.in-ReadFault.ensures.stream c.in-ReadFault.ensures.found
 
 pub returns-in-Memory-clause-item : goal.returns-in-Memory-clause-item
 returns-in-Memory-clause-item g c = answers_memory _ _ c.args.buffer.now c.look_ahead.new.buffer c.in-Memory.ensures.stream
