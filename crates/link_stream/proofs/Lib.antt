@@ -1,0 +1,4 @@
+mod EndLemmas
+pub mod RunLemmas
+mod TurnLemmas
+mod WriteLemmas

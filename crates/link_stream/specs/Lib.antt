@@ -1,0 +1,3 @@
+pub mod OneEnd
+pub mod Transcript
+pub mod Turns
