@@ -1,0 +1,5 @@
+pub mod PrefixLemmas
+mod AddingLemmas
+mod KeepingLemmas
+mod EnteringLemmas
+mod LearningLemmas
