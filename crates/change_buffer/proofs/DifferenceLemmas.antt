@@ -28,7 +28,8 @@ use Rattle.change_buffer.specs.declared.feed_state.FeedState.{FeedState}
 use Rattle.change_buffer.proofs.CommitLemmas.{committed_after}
 use Rattle.change_buffer.proofs.FormLemmas.{calls_committed, calls_settled, form_kept}
 use Rattle.change_buffer.proofs.KnownLemmas.{change_name}
-use Rattle.change_buffer.proofs.NamedLemmas.{AreApart, by_test, has_name, in_named, named, named_append, named_of, named_place, none_named, rising_apart, same_from, same_named, same_to, some_named}
+use Rattle.otp_model.proofs.JudgedLemmas.{by_test}
+use Rattle.change_buffer.proofs.NamedLemmas.{AreApart, has_name, in_named, named, named_append, named_of, named_place, none_named, rising_apart, same_from, same_named, same_to, some_named}
 use Rattle.change_buffer.proofs.ScheduleLemmas.{pairs_from_rises, sched_apart}
 use Rattle.change_buffer.proofs.ShownLemmas.{apart_shown, calls_append, calls_shown, run_from_calls, run_name, shown_runs}
 

@@ -12,6 +12,7 @@ use Rattle.std.proofs.lemmas.List.Sorted.{Contains-permutation, IsPermutation-co
 use Rattle.otp_model.specs.Names.{run_name_cmp}
 use Rattle.otp_model.specs.Resolution.{is_same_name}
 use Rattle.otp_model.specs.declared.run_name.RunName.{RunName}
+use Rattle.otp_model.proofs.JudgedLemmas.{by_test}
 use Rattle.otp_model.proofs.NameLemmas.{run_name_cmp_total, same_name}
 use Rattle.otp_model.proofs.RisingLemmas.{AreAbove, IsIn, Rises}
 
@@ -43,11 +44,6 @@ same_turned a b = from (is_same_name a b) (is_same_name b a) refl refl
     from true q e f = e ∙ sym (same_to b a (sym (same_from a b e)))
     from false true e f = same_to a b (sym (same_from b a f)) ∙ sym f
     from false false e f = e ∙ sym f
-
--- what follows whichever way a test comes out
-pub by_test : {P : Type 0} (b : Bool) → (b ≡ true → P) → (b ≡ false → P) → P
-by_test true f g = f refl
-by_test false f g = g refl
 
 module _ {X : Type 0} (key : X → RunName) where
   abbrev pub named : RunName → List X → Option X

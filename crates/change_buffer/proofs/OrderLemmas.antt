@@ -9,7 +9,7 @@ use Rattle.otp_model.specs.Schedule.{in_order, with_name}
 use Rattle.otp_model.specs.declared.run_name.RunName.{RunName}
 use Rattle.otp_model.proofs.NameLemmas.{run_name_cmp_total, same_name}
 use Rattle.otp_model.proofs.RisingLemmas.{AreAbove, IsIn, Rises, above_lower}
-use Rattle.change_buffer.proofs.NamedLemmas.{by_test}
+use Rattle.otp_model.proofs.JudgedLemmas.{by_test}
 
 by_order : {P : Type 0} (o : Ordering) → (o ≡ Less → P) → (o ≡ Equal → P) → (o ≡ Greater → P) → P
 by_order Less f g h = f refl

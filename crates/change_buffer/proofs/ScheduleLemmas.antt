@@ -23,7 +23,8 @@ use Rattle.otp_model.proofs.RisingLemmas.{AreAbove, IsIn, Rises, rises}
 use Rattle.change_buffer.specs.Forms.{in_force}
 use Rattle.change_buffer.proofs.HistoryLemmas.{IsSaid, who_said}
 use Rattle.change_buffer.proofs.KnownLemmas.{change_name, known}
-use Rattle.change_buffer.proofs.NamedLemmas.{AreApart, by_test, in_named, named, named_of, named_place, rising_apart, same_to}
+use Rattle.otp_model.proofs.JudgedLemmas.{by_test}
+use Rattle.change_buffer.proofs.NamedLemmas.{AreApart, in_named, named, named_of, named_place, rising_apart, same_to}
 use Rattle.change_buffer.proofs.OrderLemmas.{from_flat, from_ordered, in_filter, in_ordered, in_range, passes_filter, rises_ordered}
 use Rattle.change_buffer.proofs.ShownLemmas.{calls_append, calls_shown, rises_shown, run_name, shown_run, shown_runs}
 

@@ -9,7 +9,8 @@ use Rattle.otp_model.specs.declared.run_name.RunName.{RunName}
 use Rattle.otp_model.specs.declared.timetable.Call.{Call}
 use Rattle.otp_model.specs.declared.timetable.Run.{Run}
 use Rattle.otp_model.proofs.RisingLemmas.{AreAbove, Rises}
-use Rattle.change_buffer.proofs.NamedLemmas.{AreApart, by_test, named, named_append, named_of, same_from}
+use Rattle.otp_model.proofs.JudgedLemmas.{by_test}
+use Rattle.change_buffer.proofs.NamedLemmas.{AreApart, named, named_append, named_of, same_from}
 
 abbrev pub run_name : Run → RunName
 run_name run = run.name

@@ -18,6 +18,7 @@ use crate::pending::pending_messages;
 use crate::prepared::Prepared;
 use otp_base::Memory;
 use otp_model::{Commit, Feed, Message};
+use rt_resolve::{FeedIndex, Lookup};
 use std::alloc::Global;
 use std::marker::Model;
 
@@ -79,7 +80,8 @@ impl Buffer {
         self.feeds.iter().any(FeedState::is_pending)
     }
 
-    /// The commit of the pending messages, and what it changes in the schedule. An `Err` is want of memory.
+    /// The commit of the pending messages, and what it changes in the schedule, where no index of the feed is kept:
+    /// `prepare_with` over one that is made for this commit alone. An `Err` is want of memory.
     pub fn prepare(&self, alloc: Global, feed: &Feed) -> Result<Prepared, Memory>
         requires { IsSound feed.now }
         ensures messages { IfOk result (λ prepared. prepared.commit.messages ≡ pending_of self.now) }
@@ -88,9 +90,22 @@ impl Buffer {
         ensures schedule { IfOk result (λ prepared. (history : List Commit) → IsCommitted self.now history
             → IsPermutation (sched feed.now (history ++ prepared.commit ∷ [])) (with_changes (sched feed.now history) prepared.changes)) }
     {
-        let feeds = resolve_all(alloc, feed, &self.feeds)?;
+        let index = FeedIndex::of(alloc, feed)?;
+        self.prepare_with(alloc, &Lookup::of(feed, &index))
+    }
+
+    /// The commit of the pending messages, and what it changes in the schedule of the feed of these indices. An `Err` is want
+    /// of memory.
+    pub fn prepare_with(&self, alloc: Global, lookup: &Lookup<'_>) -> Result<Prepared, Memory>
+        ensures messages { IfOk result (λ prepared. prepared.commit.messages ≡ pending_of self.now) }
+        ensures changes { IfOk result (λ prepared. (history : List Commit) → IsCommitted self.now history
+            → AreDifferences (sched lookup.now history) (sched lookup.now (history ++ prepared.commit ∷ [])) prepared.changes) }
+        ensures schedule { IfOk result (λ prepared. (history : List Commit) → IsCommitted self.now history
+            → IsPermutation (sched lookup.now (history ++ prepared.commit ∷ [])) (with_changes (sched lookup.now history) prepared.changes)) }
+    {
+        let feeds = resolve_all(alloc, lookup, &self.feeds)?;
         let names = names_in_order(alloc, &feeds)?;
-        let changes = differences(alloc, feed, &feeds, names)?;
+        let changes = differences(alloc, lookup.feed(), &feeds, names)?;
         let messages = pending_messages(alloc, &self.feeds)?;
         Ok(Prepared {
             commit: Commit { messages },

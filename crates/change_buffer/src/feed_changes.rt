@@ -1,12 +1,11 @@
 ghost use Rattle.std.specs.Prelude.{◌≡◌, IfOk};
 ghost use Rattle.otp_model.specs.Resolution.{AreChangesOf};
-ghost use Rattle.otp_model.specs.Sound.{IsSound};
 ghost use Rattle.change_buffer.specs.Forms.{ArePending, AreResolved, AreSaid, IsResolved, changes_now};
 
 use crate::feed_state::FeedState;
 use otp_base::{List, Memory};
-use otp_model::{Change, Feed, Message};
-use rt_resolve::{Resolved, resolve};
+use otp_model::{Change, Message};
+use rt_resolve::{Lookup, Resolved};
 use std::alloc::Global;
 
 /// What the messages of a real-time feed say, by rising name: the committed one, and the pending one if there
@@ -19,12 +18,11 @@ pub struct FeedChanges {
 
 impl FeedChanges {
     /// What the messages of a feed say.
-    fn of(alloc: Global, feed: &Feed, state: &FeedState) -> Result<FeedChanges, Memory>
-        requires { IsSound feed.now }
-        ensures { IfOk result (λ changes. IsResolved feed.now state.now changes) }
+    fn of(alloc: Global, lookup: &Lookup<'_>, state: &FeedState) -> Result<FeedChanges, Memory>
+        ensures { IfOk result (λ changes. IsResolved lookup.now state.now changes) }
     {
-        let committed = said(alloc, feed, &state.committed)?;
-        let pending = said_pending(alloc, feed, &state.pending)?;
+        let committed = said(alloc, lookup, &state.committed)?;
+        let pending = said_pending(alloc, lookup, &state.pending)?;
         Ok(FeedChanges { committed, pending })
     }
 
@@ -42,26 +40,28 @@ impl FeedChanges {
 /// What the messages of each feed say.
 pub fn resolve_all(
     alloc: Global,
-    feed: &Feed,
+    lookup: &Lookup<'_>,
     states: &[FeedState],
 ) -> Result<Vec<FeedChanges>, Memory>
-    requires { IsSound feed.now }
-    ensures { IfOk result (λ feeds. AreResolved feed.now states.now feeds.items) }
+    ensures { IfOk result (λ feeds. AreResolved lookup.now states.now feeds.items) }
 {
     let mut feeds = Vec::new(alloc);
     for state in states {
-        feeds.push(FeedChanges::of(alloc, feed, state)?)?;
+        feeds.push(FeedChanges::of(alloc, lookup, state)?)?;
     }
     Ok(feeds)
 }
 
 /// The changes that a committed message makes, if there is one.
-fn said(alloc: Global, feed: &Feed, message: &Option<Message>) -> Result<List<Change>, Memory>
-    requires { IsSound feed.now }
-    ensures { IfOk result (λ changes. AreSaid feed.now message.now changes) }
+fn said(
+    alloc: Global,
+    lookup: &Lookup<'_>,
+    message: &Option<Message>,
+) -> Result<List<Change>, Memory>
+    ensures { IfOk result (λ changes. AreSaid lookup.now message.now changes) }
 {
     match message {
-        Some(message) => changes_of(alloc, feed, message),
+        Some(message) => changes_of(alloc, lookup, message),
         None => Ok(List::new(alloc)),
     }
 }
@@ -69,22 +69,20 @@ fn said(alloc: Global, feed: &Feed, message: &Option<Message>) -> Result<List<Ch
 /// The changes that a pending message makes, if there is one.
 fn said_pending(
     alloc: Global,
-    feed: &Feed,
+    lookup: &Lookup<'_>,
     message: &Option<Message>,
 ) -> Result<Option<List<Change>>, Memory>
-    requires { IsSound feed.now }
-    ensures { IfOk result (λ changes. ArePending feed.now message.now changes) }
+    ensures { IfOk result (λ changes. ArePending lookup.now message.now changes) }
 {
     match message {
-        Some(message) => Ok(Some(changes_of(alloc, feed, message)?)),
+        Some(message) => Ok(Some(changes_of(alloc, lookup, message)?)),
         None => Ok(None),
     }
 }
 
-fn changes_of(alloc: Global, feed: &Feed, message: &Message) -> Result<List<Change>, Memory>
-    requires { IsSound feed.now }
-    ensures { IfOk result (λ changes. AreChangesOf feed.now message.now changes) }
+fn changes_of(alloc: Global, lookup: &Lookup<'_>, message: &Message) -> Result<List<Change>, Memory>
+    ensures { IfOk result (λ changes. AreChangesOf lookup.now message.now changes) }
 {
-    let Resolved { changes, .. } = resolve(alloc, feed, message)?;
+    let Resolved { changes, .. } = lookup.resolve(alloc, message)?;
     Ok(changes)
 }

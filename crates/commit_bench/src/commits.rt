@@ -1,13 +1,13 @@
 ghost use Rattle.std.specs.Prelude.{◌≡◌, ◌<◌, IfOk};
 ghost use Rattle.std.specs.List.{AllPairs};
-ghost use Rattle.otp_model.specs.Sound.{IsSound};
 ghost use Rattle.snapshot_store.specs.Changing.{IsChangeBelow};
 ghost use Rattle.commit_bench.specs.Ready.{IsReady};
 
 use crate::stop::Stop;
 use change_buffer::{Buffer, Prepared};
 use otp_base::{Memory, Steps};
-use otp_model::{Change, Feed, Message};
+use otp_model::{Change, Message};
+use rt_resolve::Lookup;
 use snapshot_store::Snapshot;
 use std::alloc::Global;
 use std::sync::ledger::{Blank, Ledger};
@@ -22,19 +22,18 @@ pub fn buffer_of_one(alloc: Global) -> Result<Buffer, Memory>
 /// What a message changes, as the next one of its feed.
 pub fn prepared(
     alloc: Global,
-    feed: &Feed,
+    lookup: &Lookup<'_>,
     buffer: &mut Buffer,
     message: Message,
 ) -> Result<Prepared, Stop>
-    requires sound { IsSound feed.now }
-    requires ready { IsReady buffer.old }
+    requires { IsReady buffer.old }
     ensures ready { IsReady buffer.new }
     ensures rise { IfOk result (λ prepared. AllPairs IsChangeBelow prepared.changes) }
 {
     if buffer.offer(1, message).is_err() {
         return Err(Stop::Older);
     }
-    Ok(buffer.prepare(alloc, feed)?)
+    Ok(buffer.prepare_with(alloc, lookup)?)
 }
 
 /// The snapshot after changes.

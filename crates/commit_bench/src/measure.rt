@@ -1,6 +1,7 @@
-ghost use Rattle.std.specs.Prelude.{◌≡◌};
+ghost use Rattle.std.specs.Prelude.{◌≡◌, IfOk};
 ghost use Rattle.otp_model.specs.Ranges.{AreOptionsInRange};
 ghost use Rattle.otp_model.specs.Sound.{IsSound};
+ghost use Rattle.rt_resolve.specs.Indices.{IsIndexOf};
 ghost use Rattle.commit_bench.specs.Ready.{IsReady};
 
 use crate::commits::{applied, buffer_of_one, prepared, settle};
@@ -12,6 +13,7 @@ use feed_load::load;
 use otp_base::{DiskFolder, Folder, read_file};
 use otp_model::{Feed, Message, Options};
 use rt_reader::read_message;
+use rt_resolve::{FeedIndex, Lookup};
 use snapshot_store::Snapshot;
 use std::alloc::Global;
 use std::marker::Brand;
@@ -55,15 +57,31 @@ fn commit_all(
 {
     let alloc = rt.alloc();
     let mut buffer = buffer_of_one(alloc)?;
+    let index = indexed(rt, timed, feed)?;
+    let lookup = Lookup::of(feed, &index);
     let mut latest = built(rt, timed, feed)?;
     let mut earlier = Vec::new(alloc);
     for word in words {
-        let next = committed(rt, timed, feed, &mut buffer, &latest, word.name)?;
+        let next = committed(rt, timed, &lookup, &mut buffer, &latest, word.name)?;
         earlier.push(latest)?;
         latest = next;
     }
     println!(rt; "kept snapshots={}", earlier.len().saturating_add(1))?;
     Ok(())
+}
+
+/// The index of a feed.
+fn indexed(rt: &HostRuntime, timed: bool, feed: &Feed) -> Result<FeedIndex, Stop>
+    requires { IsSound feed.now }
+    ensures { IfOk result (IsIndexOf feed.now) }
+{
+    let start = Instant::now(rt)?;
+    let index = FeedIndex::of(rt.alloc(), feed)?;
+    let took = start.elapsed(rt)?.as_micros();
+    if timed {
+        println!(rt; "index us={took}")?;
+    }
+    Ok(index)
 }
 
 /// The snapshot of a feed.
@@ -85,13 +103,12 @@ fn built(rt: &HostRuntime, timed: bool, feed: &Feed) -> Result<Snapshot, Stop> {
 fn committed(
     rt: &HostRuntime,
     timed: bool,
-    feed: &Feed,
+    lookup: &Lookup<'_>,
     buffer: &mut Buffer,
     latest: &Snapshot,
     name: &str,
 ) -> Result<Snapshot, Stop>
-    requires sound { IsSound feed.now }
-    requires ready { IsReady buffer.old }
+    requires { IsReady buffer.old }
     ensures { IsReady buffer.new }
 {
     let alloc = rt.alloc();
@@ -100,7 +117,7 @@ fn committed(
     let message = message_of(alloc, &mut folder, name)?;
     let read = start.elapsed(rt)?.as_micros();
     let start = Instant::now(rt)?;
-    let prepared = prepared(alloc, feed, buffer, message)?;
+    let prepared = prepared(alloc, lookup, buffer, message)?;
     let prepare = start.elapsed(rt)?.as_micros();
     let start = Instant::now(rt)?;
     let snapshot = applied::<Brand>(alloc, latest, prepared.changes.as_slice(), Blank::new(1))?;

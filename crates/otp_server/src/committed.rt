@@ -12,6 +12,7 @@ ghost use Rattle.otp_server.specs.declared.committed.Uncommitted.TheVariants as 
 use change_buffer::{Buffer, OfferFault};
 use otp_base::{Memory, Steps};
 use otp_model::{Feed, Message};
+use rt_resolve::Lookup;
 use snapshot_store::Snapshot;
 use std::alloc::Global;
 use std::marker::Brand;
@@ -48,21 +49,20 @@ impl Committed {
     pub fn commit(
         &mut self,
         alloc: Global,
-        feed: &Feed,
+        lookup: &Lookup<'_>,
         feed_no: u32,
         message: Message,
     ) -> Result<(), Uncommitted>
-        requires sound { IsSound feed.now }
         requires first { 1 ≤ feed_no }
         requires last { feed_no ≤ length self.old.buffer }
-        requires after { IsAfterSome feed.now (length self.old.buffer) self.old }
-        ensures ok { OnOk result ((told : List Told) → IsAfter feed.now (length self.old.buffer) told self.old
-            → (above_of (timestamp_of told feed_no) message.timestamp ≡ None) × IsAfter feed.now (length self.old.buffer) (told ++ (feed_no, message) ∷ []) self.new) }
-        ensures older { IfErr result (λ why. (have : ℕ) → why ≡ uncommitted.Older have → (told : List Told) → IsAfter feed.now (length self.old.buffer) told self.old
+        requires after { IsAfterSome lookup.now (length self.old.buffer) self.old }
+        ensures ok { OnOk result ((told : List Told) → IsAfter lookup.now (length self.old.buffer) told self.old
+            → (above_of (timestamp_of told feed_no) message.timestamp ≡ None) × IsAfter lookup.now (length self.old.buffer) (told ++ (feed_no, message) ∷ []) self.new) }
+        ensures older { IfErr result (λ why. (have : ℕ) → why ≡ uncommitted.Older have → (told : List Told) → IsAfter lookup.now (length self.old.buffer) told self.old
             → above_of (timestamp_of told feed_no) message.timestamp ≡ Some have) }
     {
         match self.buffer.offer(feed_no, message) {
-            Ok(_) => self.publish::<Brand>(alloc, feed, Blank::new(1)),
+            Ok(_) => self.publish::<Brand>(alloc, lookup, Blank::new(1)),
             Err(OfferFault::Older { have }) => Err(Uncommitted::Older { have }),
             Err(OfferFault::CountSpent) => unreachable!(),
             Err(OfferFault::Memory) => Err(Uncommitted::Memory),
@@ -73,10 +73,9 @@ impl Committed {
     fn publish<L: Ledger>(
         &mut self,
         alloc: Global,
-        feed: &Feed,
+        lookup: &Lookup<'_>,
         blank: Blank,
     ) -> Result<(), Uncommitted>
-        requires sound { IsSound feed.now }
         requires name { blank.name ≡ L.name }
         requires parts { blank.parts ≡ L.parts }
         requires some { 0 < blank.parts }
@@ -85,12 +84,12 @@ impl Committed {
         ensures committed { OnOk result ((history : List CommitOf) (commit : CommitOf) → commit.messages ≡ pending_of self.old.buffer
             → IsCommitted self.old.buffer history → IsCommitted self.new.buffer (history ++ commit ∷ [])) }
         ensures stands { OnOk result ((history : List CommitOf) (commit : CommitOf) → commit.messages ≡ pending_of self.old.buffer
-            → IsCommitted self.old.buffer history → IsPermutation (sched feed.now history) (runs_of self.old.snapshot)
-            → IsPermutation (sched feed.now (history ++ commit ∷ [])) (runs_of self.new.snapshot)) }
+            → IsCommitted self.old.buffer history → IsPermutation (sched lookup.now history) (runs_of self.old.snapshot)
+            → IsPermutation (sched lookup.now (history ++ commit ∷ [])) (runs_of self.new.snapshot)) }
         ensures memory { IfErr result (λ why. why ≡ uncommitted.Memory) }
     {
         let mut steps = Steps::<L>::new(blank);
-        let prepared = match self.buffer.prepare(alloc, feed) {
+        let prepared = match self.buffer.prepare_with(alloc, lookup) {
             Ok(prepared) => prepared,
             Err(_) => return Err(Uncommitted::Memory),
         };

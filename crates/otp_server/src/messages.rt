@@ -13,6 +13,7 @@ use command_words::MessageWord;
 use otp_base::{FileFault, Folder, read_file};
 use otp_model::{Feed, Message};
 use rt_reader::{MessageFault, read_message};
+use rt_resolve::{FeedIndex, Lookup};
 use std::alloc::Global;
 
 /// The most bytes of a message.
@@ -35,9 +36,29 @@ pub fn committed<F: Folder>(
     ensures unchanged { F.files folder.new ≡ F.files folder.old }
     ensures later { F.faults folder.old ≤ F.faults folder.new }
 {
-    let mut committed = Committed::new(alloc, feed, feeds)?;
+    let index = FeedIndex::of(alloc, feed)?;
+    commit_words(alloc, folder, &Lookup::of(feed, &index), feeds, words)
+}
+
+/// The same over the indices of the feed.
+fn commit_words<F: Folder>(
+    alloc: Global,
+    folder: &mut F,
+    lookup: &Lookup<'_>,
+    feeds: u32,
+    words: &[MessageWord<'_>],
+) -> Result<Committed, Refusal>
+    requires words { All (IsOf feeds) words.now }
+    requires few { length words.now ≤ most_messages }
+    ensures done { IfOk result (IsAfterWords (F.files folder.old) lookup.now feeds (all_asked words.now)) }
+    ensures refused { IfErr result (IsMessageFault (F.files folder.old) (all_asked words.now)) }
+    ensures cause { result ≡ Err Refusal.Read → Rose (F.faults folder.old) (F.faults folder.new) }
+    ensures unchanged { F.files folder.new ≡ F.files folder.old }
+    ensures later { F.faults folder.old ≤ F.faults folder.new }
+{
+    let mut committed = Committed::new(alloc, lookup.feed(), feeds)?;
     for (place, word) in words.iter().enumerate() {
-        match take_word(alloc, folder, feed, &mut committed, word) {
+        match take_word(alloc, folder, lookup, &mut committed, word) {
             Ok(()) => {}
             Err(Stop::Untaken(why)) => {
                 return Err(Refusal::Message {
@@ -67,23 +88,22 @@ pub enum Stop {
 fn take_word<F: Folder>(
     alloc: Global,
     folder: &mut F,
-    feed: &Feed,
+    lookup: &Lookup<'_>,
     committed: &mut Committed,
     word: &MessageWord<'_>,
 ) -> Result<(), Stop>
-    requires sound { IsSound feed.now }
     requires of { IsWordOf (length committed.old.buffer) word.now }
-    requires after { IsAfterSome feed.now (length committed.old.buffer) committed.old }
-    ensures ok { OnOk result ((told : List Told) → IsAfter feed.now (length committed.old.buffer) told committed.old
-        → IsTakenBy (F.files folder.old) feed.now (length committed.old.buffer) told word.now committed.new) }
-    ensures stops { IfErr result (λ stop. (told : List Told) → IsAfter feed.now (length committed.old.buffer) told committed.old
+    requires after { IsAfterSome lookup.now (length committed.old.buffer) committed.old }
+    ensures ok { OnOk result ((told : List Told) → IsAfter lookup.now (length committed.old.buffer) told committed.old
+        → IsTakenBy (F.files folder.old) lookup.now (length committed.old.buffer) told word.now committed.new) }
+    ensures stops { IfErr result (λ stop. (told : List Told) → IsAfter lookup.now (length committed.old.buffer) told committed.old
         → IsUntakenBy (F.files folder.old) told word.now stop) }
     ensures cause { result ≡ Err Stop.Read → Rose (F.faults folder.old) (F.faults folder.new) }
     ensures unchanged { F.files folder.new ≡ F.files folder.old }
     ensures later { F.faults folder.old ≤ F.faults folder.new }
 {
     match message_of(alloc, folder, word.name) {
-        Ok(message) => take(alloc, feed, committed, word.feed_no, message),
+        Ok(message) => take(alloc, lookup, committed, word.feed_no, message),
         Err(stop) => Err(stop),
     }
 }
@@ -91,20 +111,19 @@ fn take_word<F: Folder>(
 /// Commits a message.
 fn take(
     alloc: Global,
-    feed: &Feed,
+    lookup: &Lookup<'_>,
     committed: &mut Committed,
     feed_no: u32,
     message: Message,
 ) -> Result<(), Stop>
-    requires sound { IsSound feed.now }
     requires first { 1 ≤ feed_no }
     requires last { feed_no ≤ length committed.old.buffer }
-    requires after { IsAfterSome feed.now (length committed.old.buffer) committed.old }
-    ensures ok { OnOk result ((told : List Told) → IsAfter feed.now (length committed.old.buffer) told committed.old
-        → IsNext feed.now (length committed.old.buffer) told feed_no message committed.new) }
-    ensures stops { IfErr result (λ stop. (told : List Told) → IsAfter feed.now (length committed.old.buffer) told committed.old → IsOlder told feed_no message stop) }
+    requires after { IsAfterSome lookup.now (length committed.old.buffer) committed.old }
+    ensures ok { OnOk result ((told : List Told) → IsAfter lookup.now (length committed.old.buffer) told committed.old
+        → IsNext lookup.now (length committed.old.buffer) told feed_no message committed.new) }
+    ensures stops { IfErr result (λ stop. (told : List Told) → IsAfter lookup.now (length committed.old.buffer) told committed.old → IsOlder told feed_no message stop) }
 {
-    match committed.commit(alloc, feed, feed_no, message) {
+    match committed.commit(alloc, lookup, feed_no, message) {
         Ok(()) => Ok(()),
         Err(Uncommitted::Older { have }) => Err(Stop::Untaken(Untaken::Older { have })),
         Err(Uncommitted::Memory) => Err(Stop::Memory),

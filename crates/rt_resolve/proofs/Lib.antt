@@ -1,6 +1,7 @@
 pub mod CountLemmas
 pub mod CourseLemmas
 pub mod GivenLemmas
+pub mod IdLemmas
 pub mod IndexLemmas
 pub mod JudgedLemmas
 pub mod ListLemmas

@@ -3,5 +3,4 @@ pub mod Indices
 pub mod Meaning
 pub mod Moving
 pub mod Reasons
-pub mod Sample
 pub mod Tallies

@@ -5,6 +5,7 @@
 mod added;
 mod course;
 mod delay;
+mod ids;
 mod judging;
 mod lookup;
 mod meaning;
@@ -14,7 +15,5 @@ mod reason;
 mod resolving;
 mod tally;
 
+pub use lookup::{FeedIndex, Lookup};
 pub use resolving::{Resolved, resolve};
-
-#[cfg(test)]
-mod tests;

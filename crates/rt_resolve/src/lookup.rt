@@ -5,8 +5,9 @@ ghost use Rattle.otp_model.specs.Moves.{platform_of};
 ghost use Rattle.otp_model.specs.Resolution.{is_in_horizon, is_new_trip, is_same_name, planned_name, run_meant, run_named, service_day_of, trip_of};
 ghost use Rattle.otp_model.specs.Sights.{first_sights};
 ghost use Rattle.otp_model.specs.Sound.{IsRunBelow, IsSound, IsSoundRun};
+ghost use Rattle.rt_resolve.specs.Indices.{IsIndexOf};
 
-use name_index::Names;
+use crate::ids::Ids;
 use otp_base::Memory;
 use otp_model::{
     DayNo, Feed, Run, RunName, Stop, StopNo, Trip, TripName, TripNo, TripUpdate, parse_clock,
@@ -43,58 +44,83 @@ impl Identified for Trip {
 
 /// The ids of these, each once, to find a place by its id.
 #[tactic(auto, using(name_index::proofs::SightFacts::starts_noting), unfolding(name_index::proofs::SightFacts::noted_all))]
-fn index_of<'a, R: Identified>(alloc: Global, rows: &'a [R]) -> Result<Names<'a>, Memory>
-    ensures { IfOk result (λ names. names ≡ first_sights (map R.id_of rows.now)) }
+fn index_of<R: Identified>(alloc: Global, rows: &[R]) -> Result<Ids, Memory>
+    ensures { IfOk result (λ ids. ids ≡ first_sights (map R.id_of rows.now)) }
 {
-    let mut names = Names::new(alloc);
+    let mut ids = Ids::new(alloc);
     let mut left = rows;
     while let [row, rest @ ..] = left {
-        names.note(row.id())?;
+        ids.note(alloc, row.id())?;
         left = rest;
     }
-    Ok(names)
+    Ok(ids)
 }
 
-/// A feed with an index of its trips and one of its stops.
+/// The ids of a feed's trips and of its stops, to find them by: to be made once for the feed and used for each message.
+#[derive(Drop)]
+pub struct FeedIndex {
+    trips: Ids,
+    stops: Ids,
+}
+
+impl FeedIndex {
+    /// The index of a feed. It takes memory for the ids; an `Err` is want of it.
+    pub fn of(alloc: Global, feed: &Feed) -> Result<FeedIndex, Memory>
+        requires { IsSound feed.now }
+        ensures { IfOk result (IsIndexOf feed.now) }
+    {
+        let trips = index_of(alloc, feed.trips.as_slice())?;
+        let stops = index_of(alloc, feed.stops.as_slice())?;
+        Ok(FeedIndex { trips, stops })
+    }
+}
+
+/// A sound feed with its index.
 #[derive(Drop)]
 pub struct Lookup<'a> {
     feed: &'a Feed,
-    trips: Names<'a>,
-    stops: Names<'a>,
+    index: &'a FeedIndex,
 }
 
 impl<'a> Model for Lookup<'a> {
     ghost use Rattle.otp_model.specs.declared.timetable.Feed.{Feed as FeedOf};
-    ghost use Rattle.rt_resolve.specs.Indices.{IsIndexed};
+    ghost use Rattle.rt_resolve.specs.Indices.{IsIndexOf};
 
     ghost Value = { FeedOf };
 
     ghost view = { λ lookup. lookup.feed.now };
 
-    ghost invariant = { λ lookup. IsIndexed lookup.feed.now lookup.trips lookup.stops };
+    ghost invariant = { λ lookup. IsIndexOf lookup.feed.now lookup.index.now };
 }
 
 impl<'a> Lookup<'a> {
-    pub fn of(alloc: Global, feed: &'a Feed) -> Result<Lookup<'a>, Memory>
-        requires { IsSound feed.now }
-        ensures { IfOk result (λ lookup. lookup ≡ feed.now) }
+    /// A feed with its index. It takes no memory.
+    pub fn of(feed: &'a Feed, index: &'a FeedIndex) -> Lookup<'a>
+        requires { IsIndexOf feed.now index.now }
+        ensures { result ≡ feed.now }
     {
-        let trips = index_of(alloc, feed.trips.as_slice())?;
-        let stops = index_of(alloc, feed.stops.as_slice())?;
-        Ok(Lookup { feed, trips, stops })
+        Lookup { feed, index }
     }
 
-    pub fn stops(&self) -> &'a [Stop]
+    /// The feed, which is sound.
+    pub fn feed(&self) -> &'a Feed
+        ensures feed { result.now ≡ self.now }
+        ensures sound { IsSound self.now }
+    {
+        self.feed
+    }
+
+    pub(crate) fn stops(&self) -> &'a [Stop]
         ensures { result.now ≡ self.now.stops }
     {
         self.feed.stops.as_slice()
     }
 
     /// The number of the trip of this id.
-    pub fn trip(&self, id: &str) -> Option<TripNo>
+    pub(crate) fn trip(&self, id: &str) -> Option<TripNo>
         ensures { result ≡ trip_of self.now id.now }
     {
-        let place = self.trips.place(id);
+        let place = self.index.trips.place(id);
         if place < self.feed.trips.len() {
             Some(place as u32)
         } else {
@@ -103,7 +129,7 @@ impl<'a> Lookup<'a> {
     }
 
     /// Whether a trip of this id may be added: some text that no trip has.
-    pub fn is_new_trip(&self, id: &str) -> bool
+    pub(crate) fn is_new_trip(&self, id: &str) -> bool
         ensures { result ≡ is_new_trip self.now id.now }
     {
         if id.len() == 0 {
@@ -116,10 +142,10 @@ impl<'a> Lookup<'a> {
     }
 
     /// The number of the stop or platform of this id.
-    pub fn platform(&self, id: &str) -> Option<StopNo>
+    pub(crate) fn platform(&self, id: &str) -> Option<StopNo>
         ensures { result ≡ platform_of self.now.stops id.now }
     {
-        let place = self.stops.place(id);
+        let place = self.index.stops.place(id);
         let stop = self.feed.stops.as_slice().get(place)?;
         if stop.kind == PLATFORM {
             Some(place as u32)
@@ -138,7 +164,7 @@ impl<'a> Lookup<'a> {
 
     /// The run of a trip on a day that an update means: the one without a start, or else the one that starts at
     /// its start_time.
-    pub fn run_meant(&self, trip: TripNo, day: DayNo, update: &TripUpdate) -> Option<&'a Run>
+    pub(crate) fn run_meant(&self, trip: TripNo, day: DayNo, update: &TripUpdate) -> Option<&'a Run>
         ensures run { option_copied result ≡ run_meant self.now trip day update.now.start_time }
         ensures sound { IfSome (option_copied result) (IsSoundRun (length self.now.stops) (length self.now.trips)) }
     {
@@ -153,7 +179,7 @@ impl<'a> Lookup<'a> {
     }
 
     /// The day of service that an update is for: its start_date, or else the local day of the message.
-    pub fn service_day(
+    pub(crate) fn service_day(
         &self,
         timestamp: Option<u64>,
         update: &TripUpdate,
@@ -170,7 +196,7 @@ impl<'a> Lookup<'a> {
     }
 
     /// Whether the day is one of those over which the feed is loaded.
-    pub fn is_in_horizon(&self, day: DayNo) -> bool
+    pub(crate) fn is_in_horizon(&self, day: DayNo) -> bool
         ensures { result ≡ is_in_horizon self.now day }
     {
         let day = i64::from(day);

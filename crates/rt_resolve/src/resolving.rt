@@ -4,7 +4,7 @@ ghost use Rattle.otp_model.specs.Sound.{IsSound};
 ghost use Rattle.rt_resolve.specs.Tallies.{Tallies};
 
 use crate::judging::judge;
-use crate::lookup::Lookup;
+use crate::lookup::{FeedIndex, Lookup};
 use crate::tally::{Tally, changes_of};
 use otp_base::{List, Memory};
 use otp_model::{Change, Feed, Message};
@@ -30,21 +30,32 @@ fn tally_of(alloc: Global, lookup: &Lookup, message: &Message) -> Result<Tally, 
     Ok(tally)
 }
 
-/// What a message, as a full dataset of trip updates, says of the runs of a feed.
-///
-/// Each entity gives one change, or is ignored for the first of these reasons that holds: 1, it is marked deleted;
-/// 2, it has no trip update; 3, the relation of its trip is none of SCHEDULED, CANCELED, DELETED, ADDED and NEW;
-/// 4, its trip has no id; 5, the feed lacks the trip, or has the one that is to be added; 6, no day of service is
-/// told; 7, the trip has no such run, or the day of an added one is none of the feed's; 8, a delay is not of 32
-/// bits, a time not from 0 to 2^40, or the calls of an added run can't be told; 9, an earlier entity resolved for
-/// the same name. Calls of a run of the feed that no update means are passed over.
+impl<'a> Lookup<'a> {
+    /// What a message, as a full dataset of trip updates, says of the runs of the feed.
+    ///
+    /// Each entity gives one change, or is ignored for the first of these reasons that holds: 1, it is marked deleted;
+    /// 2, it has no trip update; 3, the relation of its trip is none of SCHEDULED, CANCELED, DELETED, ADDED and NEW;
+    /// 4, its trip has no id; 5, the feed lacks the trip, or has the one that is to be added; 6, no day of service is
+    /// told; 7, the trip has no such run, or the day of an added one is none of the feed's; 8, a delay is not of 32
+    /// bits, a time not from 0 to 2^40, or the calls of an added run can't be told; 9, an earlier entity resolved for
+    /// the same name. Calls of a run of the feed that no update means are passed over.
+    pub fn resolve(&self, alloc: Global, message: &Message) -> Result<Resolved, Memory>
+        ensures changes { IfOk result (λ resolved. AreChangesOf self.now message.now resolved.changes) }
+        ensures ignored { IfOk result (λ resolved. resolved.ignored ≡ ignored self.now message.now) }
+    {
+        let Tally { changes, ignored } = tally_of(alloc, self, message)?;
+        let changes = changes_of(alloc, changes)?;
+        Ok(Resolved { changes, ignored })
+    }
+}
+
+/// What a message says of the runs of a feed, where no index of the feed is kept: `Lookup::resolve` over one that is made
+/// for this message alone.
 pub fn resolve(alloc: Global, feed: &Feed, message: &Message) -> Result<Resolved, Memory>
     requires { IsSound feed.now }
     ensures changes { IfOk result (λ resolved. AreChangesOf feed.now message.now resolved.changes) }
     ensures ignored { IfOk result (λ resolved. resolved.ignored ≡ ignored feed.now message.now) }
 {
-    let lookup = Lookup::of(alloc, feed)?;
-    let Tally { changes, ignored } = tally_of(alloc, &lookup, message)?;
-    let changes = changes_of(alloc, changes)?;
-    Ok(Resolved { changes, ignored })
+    let index = FeedIndex::of(alloc, feed)?;
+    Lookup::of(feed, &index).resolve(alloc, message)
 }

@@ -1,7 +1,9 @@
 mod BlockLemmas
 mod IndexLemmas
+mod MarkLemmas
 pub mod OrderLemmas
 mod PlaceLemmas
+mod RenewLemmas
 mod RowLemmas
 mod SearchLemmas
 mod TakeLemmas

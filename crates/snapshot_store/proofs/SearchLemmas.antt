@@ -13,11 +13,10 @@ use Rattle.std.proofs.lemmas.List.Sorted.{searchable_from_sorted}
 use Rattle.otp_model.specs.Names.{run_name_cmp}
 use Rattle.otp_model.specs.declared.change.Change.{Change}
 use Rattle.otp_model.specs.declared.run_name.RunName.{RunName}
-use Rattle.otp_model.specs.declared.timetable.Run.{Run}
 use Rattle.otp_model.proofs.NameLemmas.{run_name_cmp_total}
-use Rattle.trip_patterns.specs.Lanes.{LaneOf, empty_lane}
+use Rattle.trip_patterns.specs.Lanes.{LaneOf}
 use Rattle.snapshot_store.specs.Changing.{IsChangeBelow, has_change}
-use Rattle.snapshot_store.specs.Order.{AreByBlock, is_run_of, lane_cmp, spot_number}
+use Rattle.snapshot_store.specs.Order.{lane_cmp, spot_number}
 
 module _ {K X : Type 0} {R : K → K → Ordering} (o : IsTotalOrder R) (key : X → K) where
   -- a binary search tells whether some item has the key
@@ -45,11 +44,3 @@ change_found changes name found rise within is = found_by run_name_cmp_total (λ
 
 pub lane_cmp_total : IsTotalOrder lane_cmp
 lane_cmp_total = then_total (on_total (λ (lane : LaneOf). lane.day) int_cmp_total) (on_total (λ (lane : LaneOf). map spot_number lane.pattern) nat_list_cmp_total)
-
-abbrev pub beside_lane : LaneOf → Run → Ordering
-beside_lane lane run = lane_cmp (empty_lane run) lane
-
--- the run of a block, among runs that are sorted by block
-pub run_found : (runs : List Run) (lane : LaneOf) (found : Result ℕ ℕ) → AreByBlock runs → IsSearchInRange found (length runs)
-    → IsBinarySearchResult (beside_lane lane) runs found → is_ok found ≡ list_any (is_run_of lane) runs
-run_found runs lane found sorted within is = found_by lane_cmp_total empty_lane runs lane found sorted within is

@@ -1,4 +1,4 @@
--- Blocks that are taken apart, and what is counted where they are made anew.
+-- Runs that changes touch, and what is counted where blocks are made anew.
 use Rattle.std.proofs.Common.{◌≡◌, ℕ, zero, suc, ◌+◌, ◌*◌, ◌<◌, ◌≤◌, Bool, IsTrue, true, false, cond, not, ◌&&◌, ◌||◌, List, [], ◌∷◌, ◌++◌, length, take, get_or, Option, Some, None, refl, sym, ap, subst, ◌∙◌, arith, inl, inr, ◌⊎◌, zero-add}
 use Rattle.std.specs.List.{All, filter, flat_map, list_any, sum_by}
 use Rattle.std.specs.List.Sorted.{IsPermutation}
@@ -25,8 +25,8 @@ use Rattle.otp_model.proofs.Values.{int_equal, nat_equal, then_equal}
 use Rattle.trip_patterns.specs.FirstFit.{IsOfLane, rows_of}
 use Rattle.trip_patterns.specs.Lanes.{IsLane, LaneOf, empty_lane}
 use Rattle.trip_patterns.specs.Timetables.{IsBlock, IsSameBlock, StandsFor}
-use Rattle.snapshot_store.specs.Changing.{AreTaken, IsOpened, IsShared, IsTaken, is_kept, is_touched_block, kept}
-use Rattle.snapshot_store.specs.Order.{flag_number, is_run_of, pattern_cmp, spot_number}
+use Rattle.snapshot_store.specs.Changing.{is_kept, kept}
+use Rattle.snapshot_store.specs.Order.{flag_number, is_of_lanes, lane_cmp, pattern_cmp, spot_number}
 
 -- equal numbers are those of one spot
 same_flag : (a b : Bool) (m n : ℕ) → 4 * m + 2 * flag_number a ≡ 4 * n + 2 * flag_number b → (m ≡ n) × (a ≡ b)
@@ -59,7 +59,7 @@ equal_from Equal h = refl
 equal_from Greater h = absurd (cc (h))
 
 -- a run that compares alike with a lane is of its day and pattern
-pub of_lane : (lane : LaneOf) (run : Run) → is_run_of lane run ≡ true → IsOfLane lane run
+of_lane : (lane : LaneOf) (run : Run) → is_eq (lane_cmp (empty_lane run) lane) ≡ true → IsOfLane lane run
 of_lane lane run h =
     let parts = then_equal (int_cmp run.name.day lane.day) (pattern_cmp (pattern_of run) lane.pattern) (equal_from _ h) in
     record { day = int_equal _ _ parts.0; pattern = same_pattern (pattern_of run) lane.pattern parts.1 }
@@ -109,10 +109,10 @@ or_cases true b h = inl refl
 or_cases false b h = inr h
 
 -- where an item passes in a part it passes in the whole
-any_left : (p : Run → Bool) (xs ys : List Run) → list_any p xs ≡ true → list_any p (xs ++ ys) ≡ true
+pub any_left : (p : Run → Bool) (xs ys : List Run) → list_any p xs ≡ true → list_any p (xs ++ ys) ≡ true
 any_left p xs ys h = list_any-append p xs ys ∙ ap (λ b. b || list_any p ys) h
 
-any_right : (p : Run → Bool) (xs ys : List Run) → list_any p ys ≡ true → list_any p (xs ++ ys) ≡ true
+pub any_right : (p : Run → Bool) (xs ys : List Run) → list_any p ys ≡ true → list_any p (xs ++ ys) ≡ true
 any_right p xs ys h = list_any-append p xs ys ∙ ap (λ b. list_any p xs || b) h ∙ or_true (list_any p xs)
   where
     or_true : (b : Bool) → (b || true) ≡ true
@@ -124,18 +124,18 @@ any_of_block p [] n less h = absurd (omega arith)
 any_of_block p (block ∷ blocks) zero less h = any_left p (rows_of block) (flat_map rows_of blocks) h
 any_of_block p (block ∷ blocks) (suc n) less h = any_right p (rows_of block) (flat_map rows_of blocks) (any_of_block p blocks n (omega arith) h)
 
--- the rows of a touched block
-rows_touched : (changes : List Change) (added : List Run) (blocks : List (List LaneOf)) (n : ℕ) (lanes : List LaneOf) → n < length blocks → get_or blocks n [] ≡ lanes → IsBlock lanes
-    → All (λ (run : Run). IsTrue (is_changed changes run)) added → is_touched_block changes added lanes ≡ true
+-- the rows of a block into which a run comes, or of which one is changed
+pub rows_touched : (changes : List Change) (added : List Run) (blocks : List (List LaneOf)) (n : ℕ) (lanes : List LaneOf) → n < length blocks → get_or blocks n [] ≡ lanes → IsBlock lanes
+    → All (λ (run : Run). IsTrue (is_changed changes run)) added → (list_any (is_of_lanes lanes) added ≡ true) ⊎ (list_any (is_changed changes) (rows_of lanes) ≡ true)
     → All (λ (run : Run). is_touched (flat_map rows_of blocks ++ added) changes run ≡ true) (rows_of lanes)
-rows_touched changes added blocks n [] less at is are h = absurd (cc (h))
+rows_touched changes added blocks n [] less at is are h = All-nil (λ (run : Run). is_touched (flat_map rows_of blocks ++ added) changes run ≡ true)
 rows_touched changes added blocks n (lane ∷ lanes) less at is are h = λ k d within.
     let run : Run = get_or (rows_of (lane ∷ lanes)) k d in
     let of : IsOfLane lane run = block_rows lane lanes is k d within in
     let p = λ (other : Run). is_changed changes other && is_of_one_block run other in
-    elim (or_cases (list_any (is_run_of lane) added) (list_any (is_changed changes) (rows_of (lane ∷ lanes))) h) [
+    elim h [
       | inl joined ↦
-          let found = Any-from_list_any (is_run_of lane) added joined in
+          let found = Any-from_list_any (is_of_lanes (lane ∷ lanes)) added joined in
           any_right p (flat_map rows_of blocks) added
           (touched_by added changes lane run found.1 found.0 found.2 found.3 (changed_at found.0 found.1 found.2 found.3) of (of_lane lane found.1 found.4))
       | inr changed ↦
@@ -149,21 +149,8 @@ rows_touched changes added blocks n (lane ∷ lanes) less at is are h = λ k d w
     changed_at : (k : ℕ) (x : Run) → k < length added → get_or added k x ≡ x → is_changed changes x ≡ true
     changed_at k x less at = subst (λ (r : Run). is_changed changes r ≡ true) at (are k x less)
 
--- the blocks so far
-pub record AreTakenSoFar (changes : List Change) (added : List Run) (blocks : List (List LaneOf)) (n : ℕ) (shared : List (List LaneOf)) (pool : List Run) : Type 0 where
-  pub rows : IsPermutation (kept changes (flat_map rows_of (take n blocks))) (flat_map rows_of shared ++ pool)
-  pub blocks_are : All IsBlock shared
-  pub touched : All (λ (run : Run). is_touched (flat_map rows_of blocks ++ added) changes run ≡ true) pool
-
-pub none_taken : (changes : List Change) (added : List Run) (blocks : List (List LaneOf)) → AreTakenSoFar changes added blocks 0 [] []
-none_taken changes added blocks = record {
-  rows = IsPermutation-refl [];
-  blocks_are = All-nil IsBlock;
-  touched = All-nil (λ (run : Run). is_touched (flat_map rows_of blocks ++ added) changes run ≡ true);
-}
-
 -- rows of which none is changed are all kept
-all_kept : (changes : List Change) (runs : List Run) → list_any (is_changed changes) runs ≡ false → kept changes runs ≡ runs
+pub all_kept : (changes : List Change) (runs : List Run) → list_any (is_changed changes) runs ≡ false → kept changes runs ≡ runs
 all_kept changes [] h = refl
 all_kept changes (run ∷ runs) h =
     let parts = or_none (is_changed changes run) (list_any (is_changed changes) runs) h in
@@ -172,75 +159,6 @@ all_kept changes (run ∷ runs) h =
     or_none : (a b : Bool) → (a || b) ≡ false → (a ≡ false) × (b ≡ false)
     or_none false b h = (refl, h)
     or_none true b h = absurd (cc (h))
-
-untouched_rows : (changes : List Change) (added : List Run) (lanes : List LaneOf) → is_touched_block changes added lanes ≡ false → kept changes (rows_of lanes) ≡ rows_of lanes
-untouched_rows changes added [] h = refl
-untouched_rows changes added (lane ∷ lanes) h = all_kept changes (rows_of (lane ∷ lanes)) (second (list_any (is_run_of lane) added) (list_any (is_changed changes) (rows_of (lane ∷ lanes))) h)
-  where
-    second : (a b : Bool) → (a || b) ≡ false → b ≡ false
-    second false b h = h
-    second true b h = absurd (cc (h))
-
-pub more_taken : (changes : List Change) (added : List Run) (blocks : List (List LaneOf)) (n : ℕ) (lanes : List LaneOf) (shared shared' : List (List LaneOf)) (pool pool' : List Run)
-    → All IsBlock blocks → All (λ (run : Run). IsTrue (is_changed changes run)) added → n < length blocks → lanes ≡ get_or blocks n []
-    → AreTakenSoFar changes added blocks n shared pool → IsTaken changes added lanes shared shared' pool pool' → AreTakenSoFar changes added blocks (n + 1) shared' pool'
-more_taken changes added blocks n lanes shared shared' pool pool' are changed less read so taken = elim taken [ inl is ↦ share is | inr is ↦ open_one is ]
-  where
-    T : Run → Type 0
-    T run = is_touched (flat_map rows_of blocks ++ added) changes run ≡ true
-
-    parts : kept changes (flat_map rows_of (take (n + 1) blocks)) ≡ kept changes (flat_map rows_of (take n blocks)) ++ kept changes (rows_of lanes)
-    parts =
-        ap (λ (bs : List (List LaneOf)). kept changes (flat_map rows_of bs)) (take_more blocks n [] less)
-        ∙ ap (kept changes) (flat_map-append rows_of (take n blocks) (get_or blocks n [] ∷ [])
-        ∙ ap (λ (xs : List Run). flat_map rows_of (take n blocks) ++ xs) (append-nil (rows_of (get_or blocks n [])) ∙ ap rows_of (sym read)))
-        ∙ filter-append (is_kept changes) (flat_map rows_of (take n blocks)) (rows_of lanes)
-
-    swapped : (a b c : List Run) → IsPermutation ((a ++ b) ++ c) ((a ++ c) ++ b)
-    swapped a b c =
-        subst (λ (xs : List Run). IsPermutation xs ((a ++ c) ++ b)) (sym (append_assoc a b c))
-        (subst (IsPermutation (a ++ (b ++ c))) (sym (append_assoc a c b)) (IsPermutation-append_right a (b ++ c) (c ++ b) (IsPermutation-append_comm b c)))
-
-    share : IsShared changes added lanes shared shared' pool pool' → AreTakenSoFar changes added blocks (n + 1) shared' pool'
-    share is =
-        let own : List Run = rows_of lanes in
-        let before : List Run = flat_map rows_of shared in
-        let behind : flat_map rows_of shared' ≡ before ++ own
-        = ap (flat_map rows_of) is.shared_is ∙ flat_map-append rows_of shared (lanes ∷ []) ∙ ap (λ (xs : List Run). before ++ xs) (append-nil own) in
-        let moved : IsPermutation (kept changes (flat_map rows_of (take n blocks)) ++ own) ((before ++ own) ++ pool)
-        = IsPermutation-trans (kept changes (flat_map rows_of (take n blocks)) ++ own) ((before ++ pool) ++ own) ((before ++ own) ++ pool)
-        (IsPermutation-append_left own (kept changes (flat_map rows_of (take n blocks))) (before ++ pool) so.rows)
-        (swapped before pool own) in
-        record {
-          rows = subst (λ (xs : List Run). IsPermutation xs (flat_map rows_of shared' ++ pool')) (sym (parts ∙ ap (λ (xs : List Run). kept changes (flat_map rows_of (take n blocks)) ++ xs) (untouched_rows changes added lanes is.untouched)))
-              (subst (IsPermutation (kept changes (flat_map rows_of (take n blocks)) ++ own)) (sym (λ i. behind i ++ is.pool_is i)) moved);
-          blocks_are = subst (All IsBlock) (sym is.shared_is) (All-push IsBlock shared lanes so.blocks_are (subst IsBlock (sym read) (are n [] less)));
-          touched = subst (All T) (sym is.pool_is) so.touched;
-        }
-
-    open_one : IsOpened changes added lanes shared shared' pool pool' → AreTakenSoFar changes added blocks (n + 1) shared' pool'
-    open_one is =
-        let own : List Run = kept changes (rows_of lanes) in
-        let before : List Run = flat_map rows_of shared in
-        record {
-          rows = subst (λ (xs : List Run). IsPermutation xs (flat_map rows_of shared' ++ pool')) (sym parts)
-              (subst (IsPermutation (kept changes (flat_map rows_of (take n blocks)) ++ own))
-              (append_assoc before pool own ∙ sym (λ i. flat_map rows_of (is.shared_is i) ++ is.pool_is i))
-              (IsPermutation-append_left own (kept changes (flat_map rows_of (take n blocks))) (before ++ pool) so.rows));
-          blocks_are = subst (All IsBlock) (sym is.shared_is) so.blocks_are;
-          touched = subst (All T) (sym is.pool_is)
-              (All-append T pool own so.touched
-              (All-filter (is_kept changes) T (rows_of lanes)
-              (rows_touched changes added blocks n lanes less (sym read) (subst IsBlock (sym read) (are n [] less)) changed is.touched)));
-        }
-
-pub all_taken : (changes : List Change) (added : List Run) (blocks shared : List (List LaneOf)) (n : ℕ) (pool : List Run) → length blocks ≤ n
-    → AreTakenSoFar changes added blocks n shared pool → AreTaken changes added blocks shared pool
-all_taken changes added blocks shared n pool whole so = record {
-  rows = subst (λ (bs : List (List LaneOf)). IsPermutation (kept changes (flat_map rows_of bs)) (flat_map rows_of shared ++ pool)) (take_all n blocks whole) so.rows;
-  blocks_are = so.blocks_are;
-  touched = so.touched;
-}
 
 -- the runs that changes bring are of changed names
 brought : (whole rest : List Change) → All (λ (change : Change). is_changed whole (record { name = change.name; calls = [] }) ≡ true) rest
@@ -288,67 +206,53 @@ sum_all p (run ∷ runs) all =
     ∙ (λ i. cond (All-head (λ (r : Run). p r ≡ true) run runs all i) (length run.calls) 0 + sum_all p runs (All-tail (λ (r : Run). p r ≡ true) run runs all) i)
     ∙ sym (sum_by-cons (λ (run : Run). length run.calls) run runs)
 
--- the calls of the runs that are put into blocks anew are touched
-pub counted_within : (before : List Run) (changes : List Change) (rest pool added : List Run) → IsPermutation (kept changes before) (rest ++ pool)
-    → IsPermutation (flat_map run_changed changes) added → All (λ (run : Run). is_touched (before ++ added) changes run ≡ true) pool
-    → sum_by (λ (run : Run). length run.calls) (pool ++ added) ≤ touched before (with_changes before changes) changes
-counted_within before changes rest pool added moved brought-moved of-pool =
-    let part : List Run = rest ++ pool in
-    let all : IsPermutation now (part ++ added) = IsPermutation-append (kept changes before) part (flat_map run_changed changes) added moved brought-moved in
-    let weigh = λ (run : Run). cond (U run) (length run.calls) 0 in
-    omega (
-      arith,
-      ap (sum_by calls) (filter-append U before now),
-      sum_by-append calls (filter U before) (filter U now),
-      sum_filter U now,
-      sum_by-IsPermutation weigh now (part ++ added) all,
-      sum_by-append weigh part added,
-      sum_by-append weigh rest pool,
-      sum_all U pool (All-weaker (λ (run : Run). is_touched (before ++ added) changes run ≡ true) (λ (run : Run). U run ≡ true) wider pool of-pool),
-      sum_all U added (λ k d less. wider (get_or added k d) (own k d less)),
-      sum_by-append calls pool added,
-    )
-  where
-    now : List Run
-    now = with_changes before changes
+-- the run is touched where changes lead from these runs to others
+abbrev pub is_weighed : List Run → List Change → Run → Bool
+is_weighed before changes run = is_touched (before ++ with_changes before changes) changes run
 
-    calls : Run → ℕ
-    calls run = length run.calls
+-- the calls of the run if it is touched
+abbrev pub weight : List Run → List Change → Run → ℕ
+weight before changes run = cond (is_weighed before changes run) (length run.calls) 0
 
-    U : Run → Bool
-    U run = is_touched (before ++ now) changes run
+module _ (before : List Run) (changes : List Change) (added : List Run) (brought-moved : IsPermutation (flat_map run_changed changes) added) where
+  abbrev pub now : List Run
+  now = with_changes before changes
 
-    -- what is touched by the runs that changes bring is touched by those of the schedule then
-    wider : (run : Run) → is_touched (before ++ added) changes run ≡ true → U run ≡ true
-    wider run h =
-        let p = λ (other : Run). is_changed changes other && is_of_one_block run other in
-        elim (or_cases (list_any p before) (list_any p added) (sym (list_any-append p before added) ∙ h)) [
-          | inl there ↦ any_left p before now there
-          | inr among ↦ any_right p before now (any_right p (kept changes before) (flat_map run_changed changes) (list_any-IsPermutation p (flat_map run_changed changes) added brought-moved ∙ among))
-        ]
+  abbrev pub calls : Run → ℕ
+  calls run = length run.calls
 
-    own : (k : ℕ) (d : Run) → k < length added → is_touched (before ++ added) changes (get_or added k d) ≡ true
-    own k d less =
-        let run : Run = get_or added k d in
-        any_right (λ (other : Run). is_changed changes other && is_of_one_block run other) before added
-        (touched_by added changes (empty_lane run) run run k less (get_or_default added k run d less) (all_changed changes added brought-moved k d less)
-        (record { day = refl; pattern = refl }) (record { day = refl; pattern = refl }))
+  -- what is touched by the runs that changes bring is touched by those of the schedule then
+  wider : (run : Run) → is_touched (before ++ added) changes run ≡ true → is_weighed before changes run ≡ true
+  wider run h =
+      let p = λ (other : Run). is_changed changes other && is_of_one_block run other in
+      elim (or_cases (list_any p before) (list_any p added) (sym (list_any-append p before added) ∙ h)) [
+        | inl there ↦ any_left p before now there
+        | inr among ↦ any_right p before now (any_right p (kept changes before) (flat_map run_changed changes) (list_any-IsPermutation p (flat_map run_changed changes) added brought-moved ∙ among))
+      ]
 
--- blocks and blocks of more runs
-pub with_more : (blocks made all : List (List LaneOf)) (runs : List Run) → All IsBlock blocks → StandsFor made runs → all ≡ blocks ++ made → StandsFor all (flat_map rows_of blocks ++ runs)
-with_more blocks made all runs are stand is = record {
-  blocks_are = subst (All IsBlock) (sym is) (All-append IsBlock blocks made are stand.blocks_are);
-  rows = subst (IsPermutation (flat_map rows_of blocks ++ runs)) (sym (ap (flat_map rows_of) is ∙ flat_map-append rows_of blocks made))
-      (IsPermutation-append_right (flat_map rows_of blocks) runs (flat_map rows_of made) stand.rows);
-}
+  own : (k : ℕ) (d : Run) → k < length added → is_touched (before ++ added) changes (get_or added k d) ≡ true
+  own k d less =
+      let run : Run = get_or added k d in
+      any_right (λ (other : Run). is_changed changes other && is_of_one_block run other) before added
+      (touched_by added changes (empty_lane run) run run k less (get_or_default added k run d less) (all_changed changes added brought-moved k d less)
+      (record { day = refl; pattern = refl }) (record { day = refl; pattern = refl }))
 
--- what changes leave, with the runs that they bring
-pub stands_after : (changes : List Change) (added : List Run) (blocks shared all : List (List LaneOf)) (pool : List Run) → AreTaken changes added blocks shared pool
-    → IsPermutation (flat_map run_changed changes) added → StandsFor all (flat_map rows_of shared ++ (pool ++ added))
-    → IsPermutation (with_changes (flat_map rows_of blocks) changes) (flat_map rows_of all)
-stands_after changes added blocks shared all pool taken moved stand =
-    let left : List Run = flat_map rows_of shared in
-    IsPermutation-trans (with_changes (flat_map rows_of blocks) changes) (left ++ (pool ++ added)) (flat_map rows_of all)
-    (subst (IsPermutation (with_changes (flat_map rows_of blocks) changes)) (append_assoc left pool added)
-    (IsPermutation-append (kept changes (flat_map rows_of blocks)) (left ++ pool) (flat_map run_changed changes) added taken.rows moved))
-    stand.rows
+  -- touched runs weigh as many calls as they have
+  pub weigh_all : (runs : List Run) → All (λ (run : Run). is_touched (before ++ added) changes run ≡ true) runs → sum_by (weight before changes) runs ≡ sum_by calls runs
+  weigh_all runs are =
+      sum_all (is_weighed before changes) runs (All-weaker (λ (run : Run). is_touched (before ++ added) changes run ≡ true) (λ (run : Run). is_weighed before changes run ≡ true) wider runs are)
+
+  -- the touched runs that are kept, and those that changes bring, have no more calls than are touched
+  pub weighed_within : sum_by (weight before changes) (kept changes before) + sum_by calls added ≤ touched before now changes
+  weighed_within =
+      let weigh = weight before changes in
+      let all : IsPermutation now (kept changes before ++ added) = IsPermutation-append_right (kept changes before) (flat_map run_changed changes) added brought-moved in
+      omega (
+        arith,
+        ap (sum_by calls) (filter-append (is_weighed before changes) before now),
+        sum_by-append calls (filter (is_weighed before changes) before) (filter (is_weighed before changes) now),
+        sum_filter (is_weighed before changes) now,
+        sum_by-IsPermutation weigh now (kept changes before ++ added) all,
+        sum_by-append weigh (kept changes before) added,
+        weigh_all added own,
+      )

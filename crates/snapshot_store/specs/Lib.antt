@@ -1,5 +1,6 @@
 pub mod Changing
 pub mod Grouping
+pub mod Marks
 pub mod Order
 pub mod Places
 pub mod Snapshots

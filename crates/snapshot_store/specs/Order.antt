@@ -2,8 +2,9 @@
 use Rattle.std.specs.Prelude.{ℕ, ◌+◌, ◌*◌, pos, List, [], ◌∷◌, map, Bool, if◌then◌else◌}
 use Rattle.std.specs.Cmp.Lexicographic.{slice_cmp}
 use Rattle.std.specs.List.Sorted.{IsSortedByKey}
-use Rattle.std.specs.Ordering.{int_cmp, is_eq, nat_cmp, ordering_then}
+use Rattle.std.specs.Ordering.{int_cmp, is_eq, is_lt, nat_cmp, ordering_then}
 use Rattle.std.specs.declared.cmp.Ordering.{Ordering}
+use Rattle.std.specs.declared.cmp.Ordering.TheVariants.{Greater}
 use Rattle.otp_model.specs.Patterns.{Spot}
 use Rattle.otp_model.specs.declared.timetable.Run.{Run}
 use Rattle.trip_patterns.specs.Lanes.{LaneOf, empty_lane}
@@ -25,9 +26,17 @@ lane_cmp a b = ordering_then (int_cmp a.day b.day) (pattern_cmp a.pattern b.patt
 abbrev pub AreByBlock : List Run → Type 0
 AreByBlock runs = IsSortedByKey empty_lane lane_cmp runs
 
--- the run is of the lane's day and pattern
-abbrev pub is_run_of : LaneOf → Run → Bool
-is_run_of lane run = is_eq (lane_cmp (empty_lane run) lane)
+-- the run beside the block of these lanes, which is before all runs where it has none
+abbrev pub block_cmp : Run → List LaneOf → Ordering
+block_cmp run [] = Greater
+block_cmp run (lane ∷ lanes) = lane_cmp (empty_lane run) lane
+
+-- the run is of the day and pattern of these lanes
+abbrev pub is_of_lanes : List LaneOf → Run → Bool
+is_of_lanes lanes run = is_eq (block_cmp run lanes)
+
+abbrev pub is_before : List LaneOf → Run → Bool
+is_before lanes run = is_lt (block_cmp run lanes)
 
 -- the first lane of a block, whose day and pattern are the block's
 abbrev pub block_lane : List LaneOf → LaneOf

@@ -29,7 +29,7 @@ pub fn blocks_of<L: Ledger>(
 }
 
 /// Blocks of runs of which those of one pattern and day stand together.
-fn blocks_in_order<L: Ledger>(
+pub fn blocks_in_order<L: Ledger>(
     alloc: Global,
     runs: &[Run],
     steps: &mut Steps<L>,

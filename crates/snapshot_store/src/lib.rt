@@ -6,6 +6,7 @@ mod changed;
 mod grouping;
 mod order;
 mod places;
+mod renewing;
 mod rows;
 mod snapshot;
 mod touching;

@@ -1,10 +1,10 @@
 ghost use Rattle.std.specs.Prelude.{◌≡◌, OnOk, map};
 ghost use Rattle.std.specs.Arc.{arc_value};
-ghost use Rattle.std.specs.List.{list_any};
+ghost use Rattle.std.specs.List.{prefix_len};
 ghost use Rattle.std.specs.List.Sorted.{IsPermutation};
 ghost use Rattle.otp_model.specs.Patterns.{Spot as SpotOf, spot_of};
 ghost use Rattle.trip_patterns.specs.Lanes.{empty_lane};
-ghost use Rattle.snapshot_store.specs.Order.{AreByBlock, AreInOrder, block_lane, is_run_of, lane_cmp, pattern_cmp, spot_number as number_of};
+ghost use Rattle.snapshot_store.specs.Order.{AreByBlock, AreInOrder, block_cmp, block_lane, is_before, is_of_lanes, lane_cmp, pattern_cmp, spot_number as number_of};
 ghost use Rattle.snapshot_store.specs.Places.{block_pattern};
 
 use crate::snapshot::Block;
@@ -32,13 +32,38 @@ pub fn sort_blocks(blocks: &mut Vec<Arc<Block>>) -> Result<(), Memory>
     Ok(())
 }
 
-/// Whether one of the runs, which are sorted by block, is of the lane's day and pattern.
-pub fn has_run_of(runs: &[Run], lane: &Lane) -> bool
-    requires { AreByBlock runs.now }
-    ensures { result ≡ list_any (is_run_of lane.now) runs.now }
+/// How many of the first runs stand before the block of these lanes.
+pub fn count_before(runs: &[Run], lanes: &[Lane]) -> usize
+    ensures { result ≡ prefix_len (is_before lanes.now) runs.now }
 {
-    runs.binary_search_by(|run| compare_with_lane(run, lane))
-        .is_ok()
+    for count in 0..runs.len() {
+        if !compare_with_block(&runs[count], lanes).is_lt() {
+            return count;
+        }
+    }
+    runs.len()
+}
+
+/// How many of the first runs are of the block of these lanes.
+pub fn count_of(runs: &[Run], lanes: &[Lane]) -> usize
+    ensures { result ≡ prefix_len (is_of_lanes lanes.now) runs.now }
+{
+    for count in 0..runs.len() {
+        if !compare_with_block(&runs[count], lanes).is_eq() {
+            return count;
+        }
+    }
+    runs.len()
+}
+
+/// How a run stands beside the block of these lanes: behind one without lanes.
+fn compare_with_block(run: &Run, lanes: &[Lane]) -> Ordering
+    ensures { result ≡ block_cmp run.now lanes.now }
+{
+    match lanes {
+        [] => Ordering::Greater,
+        [lane, ..] => compare_with_lane(run, lane),
+    }
 }
 
 fn compare_runs(run: &Run, other: &Run) -> Ordering

@@ -1,11 +1,11 @@
 ghost use Rattle.std.specs.Prelude.{◌≡◌, ◌++◌, ◌<◌, IfOk, OnOk, Some, length, slice_get};
-ghost use Rattle.std.specs.List.{All, AllPairs, flat_map};
+ghost use Rattle.std.specs.List.{All, flat_map};
 ghost use Rattle.otp_model.specs.Patterns.{run_changed};
 ghost use Rattle.trip_patterns.specs.FirstFit.{rows_of};
 ghost use Rattle.trip_patterns.specs.Lanes.{IsLane};
-ghost use Rattle.snapshot_store.specs.Changing.{IsChangeBelow, kept};
+ghost use Rattle.snapshot_store.specs.Changing.{kept};
 
-use crate::changed::is_changed;
+use crate::changed::Changed;
 use otp_base::{Copied, List, Memory};
 use otp_model::{Call, Change, Run, RunName};
 use std::alloc::Global;
@@ -16,10 +16,18 @@ pub fn copied_runs(alloc: Global, runs: &[Run]) -> Result<Vec<Run>, Memory>
     ensures { IfOk result (λ copies. copies.items ≡ runs.now) }
 {
     let mut copies = Vec::with_capacity(alloc, runs.len())?;
+    put_copies(alloc, runs, &mut copies)?;
+    Ok(copies)
+}
+
+/// Adds the same runs, in memory of their own.
+pub fn put_copies(alloc: Global, runs: &[Run], copies: &mut Vec<Run>) -> Result<(), Memory>
+    ensures { OnOk result (copies.new.items ≡ copies.old.items ++ runs.now) }
+{
     for run in runs {
         copies.push(copied_run(alloc, run)?)?;
     }
-    Ok(copies)
+    Ok(())
 }
 
 fn copied_run(alloc: Global, run: &Run) -> Result<Run, Memory>
@@ -45,7 +53,7 @@ fn run_with(alloc: Global, name: &RunName, calls: &List<Call>) -> Result<Run, Me
 pub fn changed_runs(alloc: Global, changes: &[Change]) -> Result<Vec<Run>, Memory>
     ensures { IfOk result (λ runs. runs.items ≡ flat_map run_changed changes.now) }
 {
-    let mut runs = Vec::new(alloc);
+    let mut runs = Vec::with_capacity(alloc, changes.len())?;
     for change in changes {
         put_changed(alloc, change, &mut runs)?;
     }
@@ -71,22 +79,24 @@ pub fn run_at(alloc: Global, lane: &Lane, row: usize) -> Result<Run, Memory>
     ensures { IfOk result (λ run. slice_get lane.now.runs row ≡ Some run) }
 {
     let name = lane.name(row).copy(alloc)?;
-    let mut calls = List::new(alloc);
+    let mut calls = Vec::with_capacity(alloc, lane.positions())?;
     for position in 0..lane.positions() {
         calls.push(lane.call(row, position))?;
     }
-    Ok(Run { name, calls })
+    Ok(Run {
+        name,
+        calls: List::from_vec(calls),
+    })
 }
 
 /// Adds the runs of the rows whose names no change has.
 pub fn put_kept(
     alloc: Global,
     lanes: &[Lane],
-    changes: &[Change],
+    changes: &Changed<'_>,
     runs: &mut Vec<Run>,
 ) -> Result<(), Memory>
-    requires lanes { All IsLane lanes.now }
-    requires rise { AllPairs IsChangeBelow changes.now }
+    requires { All IsLane lanes.now }
     ensures { OnOk result (runs.new.items ≡ runs.old.items ++ kept changes.now (rows_of lanes.now)) }
 {
     for lane in lanes {
@@ -98,15 +108,14 @@ pub fn put_kept(
 fn put_kept_rows(
     alloc: Global,
     lane: &Lane,
-    changes: &[Change],
+    changes: &Changed<'_>,
     runs: &mut Vec<Run>,
 ) -> Result<(), Memory>
-    requires lane { IsLane lane.now }
-    requires rise { AllPairs IsChangeBelow changes.now }
+    requires { IsLane lane.now }
     ensures { OnOk result (runs.new.items ≡ runs.old.items ++ kept changes.now lane.now.runs) }
 {
     for row in 0..lane.rows() {
-        if is_changed(changes, lane.name(row)) {
+        if changes.has(lane.name(row)) {
             continue;
         }
         runs.push(run_at(alloc, lane, row)?)?;

@@ -9,11 +9,12 @@ ghost use Rattle.snapshot_store.specs.Changing.{IsChangeBelow};
 ghost use Rattle.snapshot_store.specs.Order.{AreInOrder};
 ghost use Rattle.snapshot_store.specs.Places.{IsIndex};
 
+use crate::changed::Changed;
 use crate::grouping::blocks_of;
 use crate::order::{sort_blocks, sort_by_block};
 use crate::places::places_of;
+use crate::renewing::renewed_blocks;
 use crate::rows::{changed_runs, copied_runs, put_kept};
-use crate::touching::{Taken, take_blocks};
 use otp_base::{List, Memory, Steps};
 use otp_model::{Change, Feed, Run, StopNo};
 use std::alloc::Global;
@@ -74,8 +75,8 @@ impl Snapshot {
     {
         let mut added = changed_runs(alloc, changes)?;
         sort_by_block(&mut added)?;
-        let taken = take_blocks(alloc, &self.blocks, changes, &added)?;
-        let blocks = with_runs(alloc, taken, added, steps)?;
+        let changed = Changed::of(alloc, changes)?;
+        let blocks = renewed_blocks(alloc, &self.blocks, &changed, &added, steps)?;
         Snapshot::of(alloc, blocks)
     }
 
@@ -94,34 +95,13 @@ impl Snapshot {
     pub fn all_runs(&self, alloc: Global) -> Result<Vec<Run>, Memory>
         ensures { IfOk result (λ runs. runs.items ≡ runs_of self.now) }
     {
+        let none = Changed::of(alloc, &[])?;
         let mut runs = Vec::new(alloc);
         for block in &self.blocks {
-            put_kept(alloc, block.as_slice(), &[], &mut runs)?;
+            put_kept(alloc, block.as_slice(), &none, &mut runs)?;
         }
         Ok(runs)
     }
-}
-
-/// The blocks that were shared, and behind them blocks of the runs of the pool and of those that are added.
-fn with_runs<L: Ledger>(
-    alloc: Global,
-    taken: Taken,
-    added: Vec<Run>,
-    steps: &mut Steps<L>,
-) -> Result<Vec<Arc<Block>>, Memory>
-    requires { All IsBlock (map arc_value taken.shared.items) }
-    ensures stands { IfOk result (λ blocks. StandsFor (map arc_value blocks.items) (flat_map rows_of (map arc_value taken.shared.items) ++ (taken.pool.items ++ added.items))) }
-    ensures most { steps.new ≤ steps.old + sum_by (λ run. length run.calls) (taken.pool.items ++ added.items) }
-{
-    let Taken {
-        shared: mut blocks,
-        mut pool,
-    } = taken;
-    let mut added = added;
-    pool.append(&mut added)?;
-    let mut made = blocks_of(alloc, pool, steps)?;
-    blocks.append(&mut made)?;
-    Ok(blocks)
 }
 
 impl Timetable for Snapshot {

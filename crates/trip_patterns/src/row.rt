@@ -25,11 +25,12 @@ impl Row {
         ensures counted { OnOk result (steps.new ≡ steps.old + length run.now.calls) }
         ensures most { steps.new ≤ steps.old + length run.now.calls }
     {
+        let calls = run.calls.len();
         let mut row = Row {
             name: run.name.copy(alloc)?,
-            seqs: List::new(alloc),
-            arrivals: List::new(alloc),
-            departures: List::new(alloc),
+            seqs: with_room(alloc, calls)?,
+            arrivals: with_room(alloc, calls)?,
+            departures: with_room(alloc, calls)?,
         };
         for call in run.calls.as_slice() {
             row.seqs.push(call.seq)?;
@@ -75,6 +76,13 @@ impl Row {
         }
         true
     }
+}
+
+/// No items, with room for so many.
+fn with_room<T>(alloc: Global, items: usize) -> Result<List<T>, Memory>
+    ensures { IfOk result (λ list. list ≡ []) }
+{
+    Ok(List::from_vec(Vec::with_capacity(alloc, items)?))
 }
 
 fn time_at(times: &[Time], position: usize) -> Time

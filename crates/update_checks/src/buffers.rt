@@ -1,79 +1,12 @@
-ghost use Rattle.std.specs.Prelude.{◌≡◌, [], ◌∷◌, IfOk, length};
+ghost use Rattle.std.specs.Prelude.{◌≡◌, length};
 ghost use Rattle.otp_model.specs.Sound.{IsSound};
-ghost use Rattle.update_checks.specs.Sample.{call_of};
 
+use crate::sample::{entity, feed};
 use change_buffer::{Buffer, OfferFault};
-use jiff::tz::TimeZone;
 use otp_base::{List, Memory, Text};
-use otp_model::{
-    Call, Change, Entity, Event, Feed, Message, Run, RunName, Stop, StopUpdate, Trip, TripName,
-    TripUpdate, Zone,
-};
+use otp_model::{Change, Event, Feed, Message, StopUpdate};
 use std::alloc::Global;
 use std::test::Fail;
-
-/// A feed of one trip, "t", of which one run on the day after 1970-01-01 leaves the stop "s" at 1,000 seconds and is
-/// there again at 2,000.
-fn feed(alloc: Global) -> Result<Feed, Memory>
-    ensures { IfOk result (λ feed. IsSound feed) }
-{
-    let mut stops = List::new(alloc);
-    stops.push(Stop {
-        id: Text::from_str(alloc, "s")?,
-        name: Text::from_str(alloc, "s")?,
-        x: 0,
-        y: 0,
-        kind: 0,
-        parent: None,
-    })?;
-    let mut trips = List::new(alloc);
-    trips.push(Trip {
-        id: Text::from_str(alloc, "t")?,
-        route: 0,
-        service: 0,
-    })?;
-    let mut runs = List::new(alloc);
-    runs.push(Run {
-        name: RunName {
-            trip: TripName::Planned(0),
-            day: 1,
-            start: None,
-        },
-        calls: calls(alloc)?,
-    })?;
-    Ok(Feed {
-        stops,
-        trips,
-        runs,
-        zone: Zone {
-            rule: TimeZone::UTC,
-        },
-        first_day: 0,
-        days: 10,
-    })
-}
-
-fn call(seq: u32, time: u32) -> Call
-    ensures { result ≡ call_of seq time }
-{
-    Call {
-        stop: 0,
-        seq,
-        arrival: i64::from(time),
-        departure: i64::from(time),
-        board: true,
-        alight: true,
-    }
-}
-
-fn calls(alloc: Global) -> Result<List<Call>, Memory>
-    ensures { IfOk result (λ calls. calls ≡ call_of 1 1000 ∷ call_of 2 2000 ∷ []) }
-{
-    let mut calls = List::new(alloc);
-    calls.push(call(1, 1_000))?;
-    calls.push(call(2, 2_000))?;
-    Ok(calls)
-}
 
 /// The updates of a message: of a stop, by its sequence or by its id, with the delay or the time of its departure.
 fn update(seq: Option<u64>, stop_id: Option<Text>, departure: Event) -> StopUpdate {
@@ -86,7 +19,7 @@ fn update(seq: Option<u64>, stop_id: Option<Text>, departure: Event) -> StopUpda
     }
 }
 
-/// A message of one trip update for that day.
+/// A message of one trip update for the day of the run.
 fn message_of(
     alloc: Global,
     trip: &str,
@@ -94,17 +27,7 @@ fn message_of(
     updates: List<StopUpdate>,
 ) -> Result<Message, Memory> {
     let mut entities = List::new(alloc);
-    entities.push(Entity {
-        deleted: false,
-        update: Some(TripUpdate {
-            trip_id: Some(Text::from_str(alloc, trip)?),
-            start_date: Some(Text::from_str(alloc, "19700102")?),
-            start_time: None,
-            route_id: None,
-            relation,
-            updates,
-        }),
-    })?;
+    entities.push(entity(alloc, trip, "19700102", relation, updates)?)?;
     Ok(Message {
         timestamp: None,
         entities,

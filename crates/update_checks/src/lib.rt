@@ -14,4 +14,8 @@ mod lanes;
 #[cfg(test)]
 mod messages;
 #[cfg(test)]
+mod resolving;
+#[cfg(test)]
+mod sample;
+#[cfg(test)]
 mod snapshots;

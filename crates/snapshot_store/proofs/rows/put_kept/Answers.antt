@@ -3,10 +3,10 @@ use Rattle.trip_patterns.specs.Lanes.{IsLane}
 use Rattle.snapshot_store.proofs.RowLemmas.{kept_lane}
 use Rattle.snapshot_store.proofs.rows.put_kept.Goals as goal
 
-pub put_kept_rows-requires-clause-lane : goal.put_kept_rows-requires-clause-lane
-put_kept_rows-requires-clause-lane c =
+pub put_kept_rows-requires : goal.put_kept_rows-requires
+put_kept_rows-requires c =
     let less : c.loop-lane.lane-index < length c.args.lanes.now = omega arith in
-    subst IsLane (sym c.lane-item.is) (c.requires.lanes c.loop-lane.lane-index c.lane-item.result less)
+    subst IsLane (sym c.lane-item.is) (c.requires c.loop-lane.lane-index c.lane-item.result less)
 
 pub loop-lane-preserved : goal.loop-lane-preserved
 loop-lane-preserved c =

@@ -16,14 +16,14 @@ unreachable-requires c =
     let kept = c.args.self.now in
     let after = c.requires.after in
     let state = some_at kept.buffer _ (place_within c.args.feed_no kept.buffer c.requires.first c.requires.last) in
-    let few = own_few c.args.feed.now _ c.args.feed_no after.told c.args.message kept kept state.0 after.after c.requires.first c.requires.last state.1 in
+    let few = own_few c.args.lookup.now _ c.args.feed_no after.told c.args.message kept kept state.0 after.after c.requires.first c.requires.last state.1 in
     let less = after.few in
     not_spent state.0 c.args.message (omega (arith, few, less)) (sym (c.offer.ensures.answer state.0 state.1) ∙ c.in-Err-CountSpent.is ∙ ap (λ fault. Err fault) c.in-Err-CountSpent.field-0-is)
 
 pub returns-in-Ok-clause-ok : goal.returns-in-Ok-clause-ok
 returns-in-Ok-clause-ok c =
     let kept = c.args.self.now in
-    let feed = c.args.feed.now in
+    let feed = c.args.lookup.now in
     let number = c.args.feed_no in
     let message = c.args.message in
     let next = c.publish.new.self in
@@ -49,7 +49,7 @@ returns-in-Err-Older-clause-older c = λ have e told after.
     let number = c.args.feed_no in
     let message = c.args.message in
     let state = some_at kept.buffer _ (place_within number kept.buffer c.requires.first c.requires.last) in
-    let stamp = own_timestamp c.args.feed.now _ number told message kept kept state.0 after c.requires.first c.requires.last state.1 in
+    let stamp = own_timestamp c.args.lookup.now _ number told message kept kept state.0 after c.requires.first c.requires.last state.1 in
     let refused = sym (c.offer.ensures.answer state.0 state.1) ∙ c.in-Err-Older.is ∙ ap (λ fault. Err fault) c.in-Err-Older.field-0-is in
     let is = sym c.in-Err-Older.have-is ∙ same_have _ have e in
     subst (λ (t : Option ℕ). above_of t message.timestamp ≡ Some have) stamp (older_is state.0 message c.in-Err-Older.have refused ∙ ap (λ n. Some n) is)

@@ -10,7 +10,7 @@ use Rattle.otp_server.proofs.committed.Committed.publish.Goals as goal
 
 pub returns-clause-stands : goal.returns-clause-stands
 returns-clause-stands g c = λ history commit is same stands.
-    let feed = c.args.feed.now in
+    let feed = c.args.lookup.now in
     let before = runs_of c.args.self.now.snapshot in
     let commits : c.in-Ok.prepared.commit ≡ commit = λ i. record { messages = (c.in-Ok.ensures.messages ∙ sym is) i } in
     let prepared = subst (λ (k : Commit). IsPermutation (sched feed (history ++ k ∷ [])) (with_changes (sched feed history) c.in-Ok.prepared.changes)) commits (c.in-Ok.ensures.schedule history same) in

@@ -12,7 +12,7 @@ returns-in_err-stop c =
     let over = subst (λ (stops : List Stop). length stops ≤ c.place-place.result) c.as_slice.ensures c.in_err-stop.ensures.lookup.3 in
     c.from_residual.ensures
     ∙ subst (λ (feed : Feed). None ≡ platform_of feed.stops c.args.id.now) c.self.view_is
-    (platform_missing c.self.inside.feed.now c.self.inside.trips c.self.inside.stops c.self.invariant c.args.id.now c.place-place.result c.place-place.ensures.place over)
+    (platform_missing c.self.inside.feed.now c.self.inside.index.now.trips c.self.inside.index.now.stops c.self.invariant c.args.id.now c.place-place.result c.place-place.ensures.place over)
 
 pub returns-then-stop-eq-PLATFORM : goal.returns-then-stop-eq-PLATFORM
 returns-then-stop-eq-PLATFORM c =
@@ -21,7 +21,7 @@ returns-then-stop-eq-PLATFORM c =
     let kind : (c.in_ok-stop.stop.now.kind == 0) ≡ true = rw c.if-stop-eq-PLATFORM.true refl in
     ap (λ (b : Bool). cond b (Some c.place-place.result) None) (sym kind)
     ∙ subst (λ (feed : Feed). cond (c.in_ok-stop.stop.now.kind == 0) (Some c.place-place.result) None ≡ platform_of feed.stops c.args.id.now) c.self.view_is
-    (platform_there c.self.inside.feed.now c.self.inside.trips c.self.inside.stops c.self.invariant c.args.id.now c.place-place.result c.in_ok-stop.stop.now c.place-place.ensures.place less is)
+    (platform_there c.self.inside.feed.now c.self.inside.index.now.trips c.self.inside.index.now.stops c.self.invariant c.args.id.now c.place-place.result c.in_ok-stop.stop.now c.place-place.ensures.place less is)
 
 pub returns-else-stop-eq-PLATFORM : goal.returns-else-stop-eq-PLATFORM
 returns-else-stop-eq-PLATFORM c =
@@ -30,4 +30,4 @@ returns-else-stop-eq-PLATFORM c =
     let kind : (c.in_ok-stop.stop.now.kind == 0) ≡ false = ne_eqb c.in_ok-stop.stop.now.kind 0 c.if-stop-eq-PLATFORM.false in
     ap (λ (b : Bool). cond b (Some c.place-place.result) None) (sym kind)
     ∙ subst (λ (feed : Feed). cond (c.in_ok-stop.stop.now.kind == 0) (Some c.place-place.result) None ≡ platform_of feed.stops c.args.id.now) c.self.view_is
-    (platform_there c.self.inside.feed.now c.self.inside.trips c.self.inside.stops c.self.invariant c.args.id.now c.place-place.result c.in_ok-stop.stop.now c.place-place.ensures.place less is)
+    (platform_there c.self.inside.feed.now c.self.inside.index.now.trips c.self.inside.index.now.stops c.self.invariant c.args.id.now c.place-place.result c.in_ok-stop.stop.now c.place-place.ensures.place less is)
