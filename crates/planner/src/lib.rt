@@ -1,6 +1,6 @@
 //! What a request asks for, over runs and edges: a page of its best journeys, and the direct walk.
 #![tactic(auto)]
 
-mod plan;
+mod pages;
 
-pub use plan::plan_runs;
+pub use pages::{plan, plan_runs};

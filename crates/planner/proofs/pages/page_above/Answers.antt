@@ -2,7 +2,7 @@ use Rattle.std.proofs.Common.{◌↔◌, ◌<◌, IfOk, IsTrue, Option, length, 
 use Rattle.std.specs.List.{filter}
 use Rattle.otp_model.specs.declared.journey.Cursor.{Cursor}
 use Rattle.otp_model.specs.Whole.{is_after}
-use Rattle.planner.proofs.plan.page_above.Goals as goal
+use Rattle.planner.proofs.pages.page_above.Goals as goal
 
 pub returns-in-None-clause-more : goal.returns-in-None-clause-more
 returns-in-None-clause-more c =

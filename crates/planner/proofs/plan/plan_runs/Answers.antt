@@ -1,6 +1,0 @@
-use Rattle.planner.proofs.EntryFacts.{left_entries}
-use Rattle.planner.proofs.plan.plan_runs.Goals as goal
-
-pub returns-clause-entries : goal.returns-clause-entries
-returns-clause-entries c =
-    left_entries c.args.runs.now c.args.edges.now c.args.request.now c.in_ok-best.best.items c.in_ok-found.found c.in_ok-best.ensures c.in_ok-found.ensures.found

@@ -1,0 +1,13 @@
+mod ArenaLemmas
+mod BlockLemmas
+mod BoardLemmas
+mod ClosureLemmas
+mod JourneyLemmas
+mod LabelLemmas
+mod LaneLemmas
+mod LostLemmas
+mod MomentLemmas
+mod RoundLemmas
+mod SettleLemmas
+mod StartLemmas
+mod WalkLemmas

@@ -1,0 +1,24 @@
+use Rattle.std.proofs.Common.{arith, get_or, length, refl, ap, sym, subst, ◌∙◌}
+use Rattle.std.proofs.lemmas.Option.{slice_get_read, same_Some}
+use Rattle.trip_patterns.specs.Lanes.{LaneOf}
+use Rattle.raptor_rounds.specs.Rides.{Catches, CatchesIn, IsRiddenInBlock, IsRiddenOn, IsTimelyLane}
+use Rattle.raptor_rounds.proofs.BoardLemmas.{settles_lane}
+use Rattle.raptor_rounds.proofs.LaneLemmas.{all_at}
+use Rattle.raptor_rounds.proofs.SettleLemmas.{settles_more_below}
+use Rattle.raptor_rounds.proofs.board.board_lanes.Goals as goal
+
+pub board_lane-requires-clause-lane : goal.board_lane-requires-clause-lane
+board_lane-requires-clause-lane c =
+    let lanes = c.args.lanes.now in
+    let lane = c.index-lanes-number.result in
+    all_at IsTimelyLane lanes c.loop-number.number lane c.requires.lanes (slice_get_read lanes (length lanes) c.loop-number.number lane refl (omega arith) c.index-lanes-number.is)
+
+pub loop-number-preserved : goal.loop-number-preserved
+loop-number-preserved c =
+    let lanes = c.args.lanes.now in
+    let lane = c.index-lanes-number.result in
+    let number = c.loop-number.number in
+    let b = c.args.ready.now in
+    let place = c.args.place.now in
+    settles_more_below c.args.request.now b.departure (CatchesIn lanes b place.position) (IsRiddenInBlock lanes b place.block) number _ _ _ c.loop-number.invariant
+    (settles_lane c.args.request.now lanes b place number lane _ _ (slice_get_read lanes (length lanes) number lane refl (omega arith) c.index-lanes-number.is) c.in_ok-board_lane.ensures)

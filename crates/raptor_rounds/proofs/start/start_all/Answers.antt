@@ -1,0 +1,11 @@
+use Rattle.std.proofs.Common.{arith}
+use Rattle.raptor_rounds.specs.Scans.{IsStartedBy, StartsBy}
+use Rattle.raptor_rounds.proofs.SettleLemmas.{settles_each, settles_some_all}
+use Rattle.raptor_rounds.proofs.start.start_all.Goals as goal
+
+pub loop-reach-preserved : goal.loop-reach-preserved
+loop-reach-preserved g c =
+    let t = c.args.timetable.now in
+    let r = c.args.request.now in
+    let d = c.args.departure.now in
+    settles_each r d (StartsBy (g.T.Timetable.runs t) r d) (IsStartedBy (g.T.Timetable.blocks t) r d) c.args.starts.now c.loop-reach.reach-index _ _ _ _ (omega arith) c.loop-reach.invariant c.in_ok-start_by.ensures

@@ -1,0 +1,7 @@
+pub mod Bounds
+pub mod Closure
+pub mod Labels
+pub mod Moments
+pub mod Rides
+pub mod Scans
+pub mod States
