@@ -80,23 +80,8 @@ impl MemoryDoor {
         self.faults = faults;
         self.back = ports;
     }
-}
 
-impl MakePort for MemoryDoor {
-    type Port = MemoryPort;
-
-    fn make_port(
-        &self,
-        alloc: Global,
-        worker: usize,
-        share: u64,
-    ) -> Result<MemoryPort, ListenFault> {
-        self.port_of(alloc, worker, share)
-            .map_err(|_| ListenFault::Memory)
-    }
-}
-
-impl MemoryDoor {
+    /// The port of a worker, if there is memory for it.
     fn port_of(&self, alloc: Global, worker: usize, share: u64) -> Result<MemoryPort, Memory>
         ensures { IfOk result (λ port. (port.share ≡ share) × (port.faults ≡ 0)) }
     {
@@ -113,6 +98,20 @@ impl MemoryDoor {
             calls: 0,
             faults: 0,
         })
+    }
+}
+
+impl MakePort for MemoryDoor {
+    type Port = MemoryPort;
+
+    fn make_port(
+        &self,
+        alloc: Global,
+        worker: usize,
+        share: u64,
+    ) -> Result<MemoryPort, ListenFault> {
+        self.port_of(alloc, worker, share)
+            .map_err(|_| ListenFault::Memory)
     }
 }
 

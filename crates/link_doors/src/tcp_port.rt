@@ -19,9 +19,9 @@ pub struct TcpPort {
 /// How many connections in a row may be gone before they are accepted.
 const TRIES: u64 = 1 << 40;
 
-/// How long a connection may stand still before it is given up, in seconds, so that one that is idle
-/// doesn't hold a worker for ever.
-const STILL: u64 = 60;
+/// How long one read or one write may wait, in seconds, so that a peer that is idle doesn't hold a worker
+/// for ever.
+const TIMEOUT: u64 = 60;
 
 impl TcpPort {
     /// The port of the machine that it listens at.
@@ -29,20 +29,20 @@ impl TcpPort {
         Ok(self.listener.local_addr()?.port())
     }
 
-    /// The next connection that stands.
-    fn next_stream(&self) -> io::Result<TcpStream> {
+    /// The next connection that stands. One that is gone before it is set up is passed over.
+    fn next_link(&self) -> io::Result<(TcpInput, TcpOutput)> {
         for _ in 0..TRIES {
             match self.listener.accept() {
-                Ok((stream, _)) => return Ok(stream),
+                Ok((stream, _)) => {
+                    if let Ok(link) = set_up(stream) {
+                        return Ok(link);
+                    }
+                }
                 Err(fault) if is_passing(fault.kind()) => {}
                 Err(fault) => return Err(fault),
             }
         }
         Err(io::Error::from(ErrorKind::ConnectionAborted))
-    }
-
-    fn next_link(&self) -> io::Result<(TcpInput, TcpOutput)> {
-        halves(self.next_stream()?)
     }
 }
 
@@ -51,12 +51,12 @@ fn is_passing(kind: ErrorKind) -> bool {
     matches!(kind, ErrorKind::Interrupted | ErrorKind::ConnectionAborted)
 }
 
-/// The two directions of a connection. Small replies leave at once.
-fn halves(stream: TcpStream) -> io::Result<(TcpInput, TcpOutput)> {
-    let still = Duration::from_secs(STILL);
+/// The two directions of a connection. What is written leaves at once.
+fn set_up(stream: TcpStream) -> io::Result<(TcpInput, TcpOutput)> {
+    let timeout = Duration::from_secs(TIMEOUT);
     stream.set_nodelay(true)?;
-    stream.set_read_timeout(Some(still))?;
-    stream.set_write_timeout(Some(still))?;
+    stream.set_read_timeout(Some(timeout))?;
+    stream.set_write_timeout(Some(timeout))?;
     let output = TcpOutput {
         sink: StdSink::new(stream.try_clone()?),
     };
