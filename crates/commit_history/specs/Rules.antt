@@ -1,6 +1,7 @@
 -- The rule of the published cell, and what each step does to what its reader or its writer knows.
 use Rattle.std.specs.Prelude.{◌≡◌, ℕ, ◌+◌, List, [], ◌∷◌, length, Option, Some, None, IfSome, fold}
 use Rattle.std.specs.Arc.{arc_value}
+use Rattle.std.specs.declared.snapshot.Snapshot.{Snapshot as Ghost}
 use mathlib.Core.Option.{some}
 use mathlib.Core.List.{IsPrefix}
 use lib.ListN.{get_elem?}
@@ -10,10 +11,14 @@ use Rattle.otp_model.specs.declared.message.Commit.{Commit}
 use Rattle.otp_model.specs.declared.timetable.Feed.{Feed}
 use Rattle.commit_history.specs.Entries.{IsEntry}
 use Rattle.commit_history.specs.declared.cell.CellOf.{CellOf}
-use Rattle.commit_history.specs.declared.cell.Entry.{Entry}
+use Rattle.commit_history.specs.declared.cell.EntryOf.{EntryOf}
 use Rattle.commit_history.specs.declared.log.Growing.{Growing}
 use Rattle.commit_history.specs.declared.rule.HistoryName.{HistoryName}
 use Rattle.commit_history.specs.declared.rule.Knowledge.{Knowledge}
+
+-- the published entry, with a feed that has no bytes
+abbrev pub Entry : Type 0
+Entry = EntryOf (Ghost (Ghost Feed))
 
 -- the published cell
 abbrev pub Cell : Type 0

@@ -12,11 +12,14 @@ use std::sync::Arc;
 
 /// A snapshot, and the number of commits that it stands for. The feed that it is of has no bytes.
 #[derive(Drop)]
-pub struct Entry {
+pub struct EntryOf<F> {
     pub number: u64,
     pub snapshot: Arc<Snapshot>,
-    pub feed: Ghost<Ghost<Feed>>,
+    pub feed: F,
 }
+
+/// A snapshot, and the number of commits that it stands for. The feed that it is of has no bytes.
+pub type Entry = EntryOf<Ghost<Ghost<Feed>>>;
 
 /// An entry, and a token of the history that it stands for.
 #[derive(Drop)]

@@ -2,7 +2,7 @@
 ghost use Rattle.std.specs.Prelude.{◌≡◌, ◌<◌, ◌^◌, ◌++◌, ◌∷◌, [], length, OnErr, OnOk};
 
 use crate::log::{Head, Reached, Token, add, begin};
-use crate::note::{Note, NoteOf, Telling};
+use crate::note::{Note, NoteOf, OfFeed, Telling};
 use otp_base::{List, Memory};
 use otp_model::{Commit, Feed};
 use std::alloc::Global;
@@ -22,32 +22,32 @@ impl Placed for Head {
 
 /// The commits of a feed, in order.
 #[derive(Drop)]
-pub struct CommitsOf<H: Placed, T: Reached> {
+pub struct CommitsOf<H: Placed, T: Reached, F: OfFeed> {
     head: H,
     seen: T,
     commits: List<Commit>,
-    feed: Ghost<Feed>,
+    feed: F,
 }
 
-impl<H: Placed, T: Reached> Model for CommitsOf<H, T> {
+impl<H: Placed, T: Reached, F: OfFeed> Model for CommitsOf<H, T, F> {
     ghost use Rattle.std.specs.Prelude.{◌≡◌};
     ghost use Rattle.commit_history.specs.Logs.{head_of};
     ghost use Rattle.commit_history.specs.Views.{WriterView};
 
     ghost Value = { WriterView };
 
-    ghost view = { λ commits. record { feed = commits.feed.value; cell = T.book commits.seen; history = commits.commits } };
+    ghost view = { λ commits. record { feed = F.feed commits.feed; cell = T.book commits.seen; history = commits.commits } };
 
     ghost invariant = { λ commits. (T.log commits.seen ≡ commits.commits) × (H.place commits.head ≡ head_of (T.book commits.seen)) };
 }
 
-pub type Commits = CommitsOf<Head, Token>;
+pub type Commits = CommitsOf<Head, Token, Ghost<Feed>>;
 
 impl Telling for Commits {
     ghost told = { λ commits. commits };
 }
 
-impl CommitsOf<Head, Token> {
+impl CommitsOf<Head, Token, Ghost<Feed>> {
     /// No commit of a feed.
     pub fn new(alloc: Global, feed: &Feed) -> Commits
         ensures feed { result.feed ≡ feed.now }

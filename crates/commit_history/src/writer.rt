@@ -4,7 +4,7 @@ ghost use Rattle.std.specs.Arc.{arc_value};
 ghost use Rattle.commit_history.specs.Entries.{IsSnapshotOf};
 ghost use Rattle.commit_history.specs.Views.{fresh_pass};
 
-use crate::cell::{Cell, CellOf, Entry};
+use crate::cell::{Cell, CellOf, EntryOf};
 use crate::commits::{Commits, CommitsOf};
 use crate::note::{Note, Telling};
 use crate::pass::{Pass, PassOf};
@@ -63,7 +63,7 @@ impl WriterOf<CellWriter, Commits> {
         ensures ok { IfOk result (λ note. (self.new ≡ record self.old { history = self.old.history ++ commit ∷ [] }) × (note ≡ self.new)) }
         ensures err { OnErr result (self.new ≡ self.old) }
     {
-        let entry = Entry {
+        let entry = EntryOf {
             number: self.number() + 1,
             snapshot,
             feed: self.commits.feed(),
@@ -155,7 +155,7 @@ fn begin_at<R: Wait>(
     ensures { IfOk result (λ writer. (writer.feed ≡ feed.now) × (writer.history ≡ [])) }
 {
     let commits = CommitsOf::new(alloc, feed);
-    let entry = Entry {
+    let entry = EntryOf {
         number: 0,
         snapshot,
         feed: commits.feed(),

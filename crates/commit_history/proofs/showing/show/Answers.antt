@@ -3,8 +3,7 @@ use Rattle.std.specs.Prelude.{◌≡◌, fold, drop}
 use Rattle.std.specs.Arc.{arc_value}
 use Rattle.logbook.specs.declared.tokens.Seen.{Seen}
 use Rattle.otp_model.specs.declared.message.Commit.{Commit}
-use Rattle.commit_history.specs.Rules.{Cell, next_of}
-use Rattle.commit_history.specs.declared.cell.Entry.{Entry}
+use Rattle.commit_history.specs.Rules.{Cell, Entry, next_of}
 use Rattle.commit_history.specs.declared.log.Growing.{Growing}
 use Rattle.commit_history.proofs.KeepingLemmas.{publishes_like}
 use Rattle.commit_history.proofs.showing.show.Goals as goal

@@ -1,0 +1,5 @@
+mod SlotLemmas
+pub mod ScheduleLemmas
+mod CostLemmas
+mod DeskLemmas
+mod MeetingLemmas
