@@ -18,6 +18,7 @@ report() {
         --zone Etc/UTC=UTC0 --from 20240506 --days 1 --reach 0 | awk -v kind="$1" -v most="$2" '
         { for (place = 2; place <= NF; place++) { split($place, pair, "="); value[pair[1]] = pair[2] } }
         $1 == "load" { printf "%s: load %.0f ms\n", kind, value["us"] / 1000 }
+        $1 == "index" { printf "%s: index of the feed %.1f ms\n", kind, value["us"] / 1000 }
         $1 == "feed" { printf "%s: %d runs\n", kind, value["runs"] }
         $1 == "build" { built = value["us"]; held = value["kilobytes"]
             printf "%s: build %.0f ms, %.0f MB\n", kind, built / 1000, (held - value["kilobytes_before"]) / 1024 }
