@@ -1,6 +1,5 @@
 -- What a commit makes of a desk.
-use Rattle.std.proofs.Common.{◌≡◌, ◌≢◌, ℕ, ◌+◌, ◌<◌, ◌≤◌, ◌^◌, Bool, true, false, List, [], ◌∷◌, ◌++◌, length, map, refl, sym, ap, subst, ◌∙◌}
-use Rattle.std.specs.Arc.{arc_value}
+use Rattle.std.proofs.Common.{◌≡◌, ◌≢◌, ℕ, ◌+◌, ◌<◌, ◌≤◌, ◌^◌, false, List, [], ◌∷◌, ◌++◌, length, map, sym, ap, subst, ◌∙◌}
 use Rattle.std.specs.List.{list_any}
 use Rattle.std.specs.List.Sorted.{IsPermutation}
 use Rattle.std.proofs.lemmas.List.Sorted.{IsPermutation-trans}
@@ -19,7 +18,7 @@ use Rattle.snapshot_store.specs.declared.snapshot.Snapshot.{Snapshot}
 use Rattle.commit_history.specs.Entries.{IsSnapshotOf}
 use Rattle.commit_history.specs.Views.{WriterView}
 use Rattle.commit_desk.specs.Costs.{IsCostWithin}
-use Rattle.commit_desk.specs.Desks.{DeskView, IsDesk, desk_of, slot_of, state_of}
+use Rattle.commit_desk.specs.Desks.{IsDesk, desk_of, slot_of, state_of}
 use Rattle.commit_desk.specs.Dones.{IsDone}
 use Rattle.commit_desk.specs.declared.done.Done.TheVariants.{Committed, Nothing}
 use Rattle.commit_desk.proofs.CostLemmas.{cost_within}

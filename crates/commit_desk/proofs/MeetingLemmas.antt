@@ -1,10 +1,10 @@
 -- What a pass knows after a meeting.
-use Rattle.std.proofs.Common.{◌≡◌, ℕ, ◌+◌, ◌<◌, List, [], ◌∷◌, ◌++◌, take, length, refl, sym, ap, subst, lit<}
-use Rattle.std.specs.Prelude.{All, Result, Err}
+use Rattle.std.proofs.Common.{◌≡◌, ℕ, List, [], ◌∷◌, ◌++◌, take, length, refl, sym, subst, lit<}
+use Rattle.std.specs.Prelude.{Result, Err}
 use Rattle.std.proofs.lemmas.List.Elements.{All-contains, All-same, All-take, Contains-push}
 use Rattle.std.proofs.Math.Seq.{take-append_seam}
 use mathlib.Core.List.{IsPrefix}
-use Rattle.otp_model.proofs.CoreLemmas.{prefix_self, prefix_trans}
+use Rattle.otp_model.proofs.CoreLemmas.{prefix_self}
 use Rattle.otp_model.specs.Core.{Extends, HasSeen, History}
 use Rattle.commit_history.specs.Views.{EnteredAt, PassView}
 use Rattle.commit_history.specs.declared.pass.TakeFault.{TakeFault}

@@ -1,19 +1,17 @@
 -- What a buffer's calls do to what sessions share.
-use Rattle.std.proofs.Common.{◌≡◌, ◌≢◌, ℕ, zero, suc, ◌+◌, ◌-◌, ◌<◌, ◌≤◌, ◌^◌, Bool, true, false, ◌||◌, nat_lt, nat_le, List, [], ◌∷◌, ◌++◌, length, map, replicate, slice_get, slice_set, Option, Some, None, Result, Ok, Err, OnOk, OnErr, if◌then◌else◌, refl, sym, ap, subst, ◌∙◌, arith}
+use Rattle.std.proofs.Common.{◌≡◌, ◌≢◌, ℕ, zero, suc, ◌<◌, ◌^◌, true, false, nat_lt, nat_le, List, [], ◌∷◌, ◌++◌, length, map, replicate, slice_get, slice_set, Option, Some, None, Result, Ok, Err, OnOk, OnErr, refl, sym, ap, subst, ◌∙◌, arith}
 use Rattle.std.specs.List.{list_any}
 use Rattle.std.specs.Option.{option_map}
 use Rattle.std.proofs.lemmas.Bool.Decides.{nat_tests}
 use Rattle.otp_model.proofs.JudgedLemmas.{by_test}
 use Rattle.otp_model.specs.Core.{History}
-use Rattle.otp_model.specs.Desk.{Acceptance, Accepted, DeskState, Older, Slot, Spent, above_of, acceptance, acceptance_by, accepts, commits, commits_of, counted, emptied, fresh_desk, fresh_slot, numbered, offered, offered_at, pending_from, pending_in, published, slot_after, slot_at}
-use Rattle.otp_model.specs.Moves.{first_of}
+use Rattle.otp_model.specs.Desk.{DeskState, above_of, acceptance, acceptance_by, accepts, commits, commits_of, counted, emptied, fresh_desk, fresh_slot, numbered, offered, offered_at, pending_from, pending_in, published}
 use Rattle.otp_model.specs.declared.message.Commit.{Commit}
 use Rattle.otp_model.specs.declared.message.Message.{Message}
 use Rattle.change_buffer.specs.Commits as buffer
 use Rattle.change_buffer.specs.Offers as offers
 use Rattle.change_buffer.specs.declared.feed_state.FeedState.{FeedState}
 use Rattle.change_buffer.specs.declared.offer_fault.OfferFault.{OfferFault}
-use Rattle.change_buffer.specs.declared.offer_fault.OfferFault.TheVariants as fault
 use Rattle.commit_desk.specs.Desks.{answer_of, slot_of, state_of}
 
 -- ---- what is pending

@@ -1,4 +1,4 @@
-use Rattle.std.proofs.Common.{◌≡◌, ◌∙◌, ℕ, ◌+◌, ◌-◌, ◌^◌, min, ap, subst}
+use Rattle.std.proofs.Common.{◌≡◌, ◌∙◌, ◌+◌, ◌-◌, ◌^◌, min, ap, subst}
 use Rattle.otp_model.specs.Core.{History}
 use Rattle.commit_history.specs.Views.{EnteredAt, PassView}
 use Rattle.commit_history.specs.declared.pass.TakeFault.TheVariants.{Memory}

@@ -1,9 +1,9 @@
-use Rattle.std.proofs.Common.{◌≡◌, ℕ, suc, ◌-◌, ◌<◌, ◌≤◌, Some, length, map, sym, ap, subst, ◌∙◌, arith}
+use Rattle.std.proofs.Common.{◌≡◌, ◌-◌, ◌≤◌, Some, length, map, sym, subst, arith}
 use Rattle.std.specs.Option.{option_map}
 use Rattle.std.proofs.lemmas.List.{length-map}
 use Rattle.otp_model.specs.Desk.{acceptance_by}
 use Rattle.commit_desk.specs.Desks.{DeskView, answer_of, slot_of}
-use Rattle.commit_desk.proofs.SlotLemmas.{IsOffered, is_offered}
+use Rattle.commit_desk.proofs.SlotLemmas.{is_offered}
 use Rattle.commit_desk.proofs.desk.DeskOf+Writer+Current.accept.Goals as goal
 
 pub returns-clause-state : goal.returns-clause-state

@@ -1,12 +1,10 @@
-use Rattle.std.proofs.Common.{rules, ◌≡◌, ◌≢◌, ◌∙◌, ◌<◌, ◌^◌, Bool, true, false, [], ◌∷◌, ◌++◌, length, map, ap, sym, subst}
+use Rattle.std.proofs.Common.{rules, ◌≡◌, ◌≢◌, ◌<◌, ◌^◌, true, false, [], ◌∷◌, ◌++◌, length, sym, subst}
 use Rattle.std.specs.Arc.{arc_value}
 use Rattle.std.specs.List.{list_any}
 use Rattle.otp_model.specs.Desk.{commits, pending_in}
 use Rattle.change_buffer.specs.Offers.{is_pending}
-use Rattle.snapshot_store.specs.declared.snapshot.Snapshot.{Snapshot}
 use Rattle.commit_history.specs.Entries.{IsSnapshotOf}
-use Rattle.commit_history.specs.Views.{WriterView}
-use Rattle.commit_desk.specs.Desks.{DeskView, desk_of, slot_of}
+use Rattle.commit_desk.specs.Desks.{DeskView, desk_of}
 use Rattle.commit_desk.specs.Dones.{IsDone}
 use Rattle.commit_desk.specs.declared.done.Done.TheVariants.{Committed, Nothing}
 use Rattle.commit_desk.proofs.DeskLemmas.{done_committed, done_nothing, still_desk, with_commit}

@@ -1,13 +1,12 @@
 use Rattle.std.proofs.Common.{◌≡◌, ◌∙◌, List, [], ap, sym, subst}
 use Rattle.std.specs.Arc.{arc_value}
 use Rattle.otp_model.specs.Core.{History}
-use Rattle.otp_model.specs.Desk.{fresh_desk}
 use Rattle.otp_model.specs.declared.timetable.Feed.{Feed}
 use Rattle.change_buffer.specs.Commits.{IsCommitted}
 use Rattle.change_buffer.specs.declared.feed_state.FeedState.{FeedState}
 use Rattle.snapshot_store.specs.declared.snapshot.Snapshot.{Snapshot}
 use Rattle.commit_history.specs.Entries.{IsSnapshotOf}
-use Rattle.commit_desk.specs.Desks.{IsDesk, state_of}
+use Rattle.commit_desk.specs.Desks.{state_of}
 use Rattle.commit_desk.proofs.ScheduleLemmas.{base_stands}
 use Rattle.commit_desk.proofs.SlotLemmas.{fresh_is}
 use Rattle.commit_desk.proofs.desk.DeskOf+Writer+Current.open.Goals as goal
