@@ -18,7 +18,7 @@ use Rattle.snapshot_store.specs.declared.snapshot.Snapshot.{Snapshot}
 use Rattle.commit_history.specs.Entries.{IsSnapshotOf}
 use Rattle.commit_history.specs.Views.{WriterView}
 use Rattle.commit_desk.specs.Costs.{IsCostWithin}
-use Rattle.commit_desk.specs.Desks.{IsDesk, desk_of, slot_of, state_of}
+use Rattle.commit_desk.specs.Desks.{DeskView, IsDesk, desk_of, slot_of, state_of}
 use Rattle.commit_desk.specs.Dones.{IsDone}
 use Rattle.commit_desk.specs.declared.done.Done.TheVariants.{Committed, Nothing}
 use Rattle.commit_desk.proofs.CostLemmas.{cost_within}
@@ -51,6 +51,29 @@ module _ (feed : Feed) (published : WriterView) (states : List FeedState) (newes
       let later : published.history ++ commit ∷ [] ≡ (commits (state_of states published.history)).history = ap (λ d. d.history) (settled_is states published.history commit some room next_messages) in
       subst (λ (h : History). IsCostWithin (sched published.feed published.history) (sched published.feed h) old new) later
       (subst (λ (f : Feed). IsCostWithin (sched f published.history) (sched f (published.history ++ commit ∷ [])) old new) desk.feed_is own)
+
+-- the same of what stands for the parts of a desk
+pub most_of : (desk : DeskView) (feed given : Feed) (published : WriterView) (states : List FeedState) (newest shared : Snapshot) (commit : Commit) (changes listed : List Change) (old new : ℕ)
+    → IsDesk feed published states newest → desk_of published states ≡ desk → IsPrepared given states commit changes → given ≡ feed → shared ≡ newest → listed ≡ changes
+    → pending_in desk.state.slots ≢ [] → length desk.state.history < 2 ^ 40 → new ≤ old + touched (runs_of shared) (with_changes (runs_of shared) listed) listed
+    → IsCostWithin (sched desk.feed desk.state.history) (sched desk.feed (commits desk.state).history) old new
+most_of desk feed given published states newest shared commit changes listed old new is view_is prepared feed_is newest_is changes_are some room most =
+    let own = subst (λ (f : Feed). IsPrepared f states commit changes) feed_is prepared in
+    let few = subst (λ (s : Snapshot). new ≤ old + touched (runs_of s) (with_changes (runs_of s) changes) changes) newest_is
+    (subst (λ (cs : List Change). new ≤ old + touched (runs_of shared) (with_changes (runs_of shared) cs) cs) changes_are most) in
+    let some_own = subst (λ (d : DeskView). pending_in d.state.slots ≢ []) (sym view_is) some in
+    let room_own = subst (λ (d : DeskView). length d.state.history < 2 ^ 40) (sym view_is) room in
+    subst (λ (d : DeskView). IsCostWithin (sched d.feed d.state.history) (sched d.feed (commits d.state).history) old new) view_is
+    (next_most feed published states newest commit changes is own some_own room_own old new few)
+
+pub stands_of : (desk : DeskView) (feed given : Feed) (published : WriterView) (states : List FeedState) (newest shared next : Snapshot) (commit : Commit) (changes listed : List Change)
+    → IsDesk feed published states newest → desk_of published states ≡ desk → IsPrepared given states commit changes → given ≡ feed → shared ≡ newest → listed ≡ changes
+    → IsPermutation (with_changes (runs_of shared) listed) (runs_of next) → IsSnapshotOf next desk.feed (desk.state.history ++ commit ∷ [])
+stands_of desk feed given published states newest shared next commit changes listed is view_is prepared feed_is newest_is changes_are changed =
+    let own = subst (λ (f : Feed). IsPrepared f states commit changes) feed_is prepared in
+    let moved = subst (λ (s : Snapshot). IsPermutation (with_changes (runs_of s) changes) (runs_of next)) newest_is
+    (subst (λ (cs : List Change). IsPermutation (with_changes (runs_of shared) cs) (runs_of next)) changes_are changed) in
+    subst (λ (d : DeskView). IsSnapshotOf next d.feed (d.state.history ++ commit ∷ [])) view_is (next_stands feed published states newest commit changes is own next moved)
 
 -- what is left where nothing was pending
 pub done_nothing : (before now : WriterView) (states : List FeedState) (number : ℕ) (note : WriterView) → list_any is_pending states ≡ false → now ≡ before
