@@ -1,12 +1,12 @@
 -- What a search offers is enough.
-use Rattle.std.proofs.Common.{◌≡◌, ◌↔◌, inl, inr, ℕ, ◌+◌, ◌≤◌, ◌<◌, ℤ, pos, ◌-ℤ◌, List, [], ◌∷◌, ◌++◌, Some, length, get_or, take, refl, sym, ap, subst, ◌∙◌, arith}
+use Rattle.std.proofs.Common.{◌≡◌, inl, inr, ℕ, ◌+◌, ◌≤◌, ◌<◌, ℤ, pos, ◌-ℤ◌, List, [], ◌∷◌, ◌++◌, Some, length, get_or, take, refl, sym, ap, subst, ◌∙◌, arith}
 use Rattle.std.specs.List.{All, Any, Contains, slice_get}
 use Rattle.std.proofs.lemmas.List.{get_or_default, take_more}
 use Rattle.std.proofs.lemmas.List.Elements.{All-contains, All-nil, All-push, All-weaker, Contains-append_left, Contains-push, Contains-push_cases}
 use Rattle.std.proofs.lemmas.Option.{get_or_from_slice_get, slice_get-get_or, slice_get_within}
 use Rattle.otp_base.specs.Adds.{FromSome}
 use Rattle.otp_model.specs.Beginnings.{Hop, IsHop}
-use Rattle.otp_model.specs.Journeys.{HasValue, IsJourney, departure_of}
+use Rattle.otp_model.specs.Journeys.{IsJourney, departure_of}
 use Rattle.otp_model.specs.Limits.{least_walk_points}
 use Rattle.otp_model.specs.Plane.{IsReached}
 use Rattle.otp_model.specs.Whole.{IsInWindow, IsNoWorse, IsOffered}
@@ -26,7 +26,7 @@ use Rattle.raptor_rounds.specs.declared.state.RoundState.{RoundState}
 use Rattle.raptor_rounds.specs.Labels.{IsFinal, IsFound}
 use Rattle.raptor_rounds.specs.Moments.{AreMoments, IsMomentIn}
 use Rattle.raptor_rounds.specs.States.{IsSearched, departures_of, finals_of}
-use Rattle.range_search.specs.Searches.{AreOffers, AreSearched, IsKept, IsMomentAfter, IsOfferOf}
+use Rattle.range_search.specs.Searches.{AreOffers, AreSearched, IsKept, IsOfferOf}
 
 -- ---- offers
 

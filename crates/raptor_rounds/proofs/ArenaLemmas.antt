@@ -1,15 +1,15 @@
 -- Lists that grow at their end or are written, and the bags over them.
-use Rattle.std.proofs.Common.{◌≡◌, ◌⊎◌, inl, inr, ℕ, suc, zero, ◌+◌, ◌-◌, ◌≤◌, ◌<◌, List, [], ◌∷◌, ◌++◌, Some, length, get_or, refl, sym, ap, subst, ◌∙◌, arith, slice_set}
-use Rattle.std.specs.List.{Contains, slice_get}
+use Rattle.std.proofs.Common.{◌≡◌, ◌⊎◌, inl, inr, ℕ, suc, zero, ◌+◌, ◌-◌, ◌≤◌, ◌<◌, ℤ, pos, List, [], ◌∷◌, ◌++◌, Option, Some, None, length, refl, sym, ap, subst, ◌∙◌, arith, slice_set}
+use Rattle.std.specs.List.{slice_get}
 use Rattle.std.proofs.lemmas.List.{get_or_append_left, get_or_push, length_push}
 use Rattle.std.proofs.lemmas.Option.{get_or_from_slice_get, slice_get-get_or, slice_get_within, same_Some}
 use Rattle.otp_base.specs.EachAt.{EachAt}
-use Rattle.otp_base.proofs.EachAtLemmas.{each_push, each_weaker}
+use Rattle.otp_base.proofs.EachAtLemmas.{each_push}
 use Rattle.label_bags.specs.declared.label.Label.{Label}
-use Rattle.label_bags.specs.Bags.{IsUpheld}
+use Rattle.label_bags.specs.Bags.{IsCovered, IsUpheld}
 use Rattle.raptor_rounds.specs.declared.bags.StopBags.{StopBags}
 use Rattle.raptor_rounds.specs.declared.node.Node.{Node}
-use Rattle.raptor_rounds.specs.States.{AreBags, AreBagsAt, AreBagsIn, IsBagAt, IsLabelAt, label_of}
+use Rattle.raptor_rounds.specs.States.{AreBags, AreBagsAt, AreBagsIn, CoverStill, IsBagAt, IsKeptCovered, IsLabelAt, bag_at, bag_in, bag_or_none, label_of, labels_in}
 
 module _ {X : Type 0} where
   pub kept_push : (xs : List X) (y : X) (i : ℕ) (x : X) → slice_get xs i ≡ Some x → slice_get (xs ++ y ∷ []) i ≡ Some x
@@ -35,6 +35,41 @@ module _ {X : Type 0} where
     | inl at ↦ subst (λ (n : ℕ). P n x) (sym at.0) (subst (P i) at.1 new)
     | inr old ↦ each k x old
   ]
+
+  -- what holds of what is read, and of nothing else, holds of what is read of a list that grew or was written
+  pub push_still : (Q : Option X → Type 0) (xs : List X) (y : X) (k : ℕ) → (Q None → ⊥) → Q (slice_get xs k) → Q (slice_get (xs ++ y ∷ []) k)
+  push_still Q [] y k never h = absurd (never h)
+  push_still Q (z ∷ xs) y zero never h = h
+  push_still Q (z ∷ xs) y (suc k) never h = push_still Q xs y k never h
+
+  pub set_still : (Q : Option X → Type 0) (xs : List X) (i : ℕ) (v : X) (k : ℕ) → (Q (slice_get xs i) → Q (Some v)) → Q (slice_get xs k) → Q (slice_get (slice_set xs i v) k)
+  set_still Q [] i v k new h = h
+  set_still Q (z ∷ xs) zero v zero new h = new h
+  set_still Q (z ∷ xs) zero v (suc k) new h = h
+  set_still Q (z ∷ xs) (suc i) v zero new h = h
+  set_still Q (z ∷ xs) (suc i) v (suc k) new h = set_still Q xs i v k new h
+
+  pub read_set : (xs : List X) (i : ℕ) (v : X) → i < length xs → slice_get (slice_set xs i v) i ≡ Some v
+  read_set [] i v less = absurd (omega (arith, less))
+  read_set (z ∷ xs) zero v less = refl
+  read_set (z ∷ xs) (suc i) v less = read_set xs i v (omega (arith, less))
+
+-- ---- bags that are made empty
+
+none_covered : (time penalty : ℤ) → IsCovered [] time penalty → ⊥
+none_covered time penalty h = absurd (omega (arith, h.2))
+
+pub bags_in_more : (arena : List Node) (stop : ℕ) (bags : List (List Label)) → AreBagsIn arena stop bags → AreBagsIn arena stop (bags ++ [] ∷ [])
+bags_in_more arena stop bags each = each_push (IsBagAt arena stop) bags [] each (λ l on. absurd (omega (arith, on.1)))
+
+pub bags_more : (arena : List Node) (bags : List StopBags) (at : StopBags) → at.bags.items ≡ [] → AreBags arena bags → AreBags arena (bags ++ at ∷ [])
+bags_more arena bags at none each = each_push (AreBagsAt arena) bags at each (rw none (λ k bag h. absurd (omega (arith, slice_get_within [] k bag h))))
+
+pub still_in_more : (bags : List (List Label)) → CoverStill (bag_at bags) (bag_at (bags ++ [] ∷ []))
+still_in_more bags place time penalty h = push_still (λ (o : Option (List Label)). IsCovered (bag_or_none o) time penalty) bags [] place (none_covered time penalty) h
+
+pub still_more : (bags : List StopBags) (at : StopBags) (stop : ℕ) → CoverStill (bag_in (slice_get bags stop)) (bag_in (slice_get (bags ++ at ∷ []) stop))
+still_more bags at stop place time penalty h = push_still (λ (o : Option StopBags). IsCovered (bag_in o place) time penalty) bags at stop (none_covered time penalty) h
 
 -- ---- bags over an arena that grows
 
@@ -71,3 +106,28 @@ bag_put arena n number label old new last some label_is bag put l on = elim (put
       time_is = ap (λ (z : Label). z.time) is;
       penalty_is = ap (λ (z : Label). z.penalty) is;
     }
+
+-- ---- the labels that bags cover
+
+pub still_in_put : (made : List (List Label)) (at : ℕ) (label : Label) (old new : List Label) → slice_get made at ≡ Some old → IsUpheld old label new → CoverStill (bag_at made) (bag_at (slice_set made at new))
+still_in_put made at label old new was put place time penalty h =
+    set_still (λ (o : Option (List Label)). IsCovered (bag_or_none o) time penalty) made at new place
+    (λ covered. put.still time penalty (subst (λ (o : Option (List Label)). IsCovered (bag_or_none o) time penalty) was covered)) h
+
+pub covered_in_put : (made : List (List Label)) (at number : ℕ) (n : Node) (label : Label) (old new : List Label) → at < length made → label ≡ label_of n number → IsUpheld old label new
+    → IsCovered (bag_at (slice_set made at new) at) n.time (pos n.penalty)
+covered_in_put made at number n label old new less is put =
+    subst (λ (o : Option (List Label)). IsCovered (bag_or_none o) n.time (pos n.penalty)) (sym (read_set made at new less)) (subst (λ (l : Label). IsCovered new l.time l.penalty) is put.covered)
+
+pub covered_put : (arena : List Node) (n : Node) (before made : List StopBags) (old new : StopBags) → ((stop : ℕ) → CoverStill (bag_in (slice_get before stop)) (bag_in (slice_get made stop))) → n.stop < length made
+    → slice_get made n.stop ≡ Some old → CoverStill (bag_at old.bags.items) (bag_at new.bags.items) → IsCovered (bag_at new.bags.items (n.rides - 1)) n.time (pos n.penalty)
+    → EachAt (IsKeptCovered before) arena → EachAt (IsKeptCovered (slice_set made n.stop new)) (arena ++ n ∷ [])
+covered_put arena n before made old new more less was still has each =
+    each_push (IsKeptCovered (slice_set made n.stop new)) arena n (λ i m h. later m (each i m h))
+    (subst (λ (o : Option StopBags). IsCovered (bag_in o (n.rides - 1)) n.time (pos n.penalty)) (sym (read_set made n.stop new less)) has)
+  where
+    later : (m : Node) → IsCovered (labels_in before m.stop m.rides) m.time (pos m.penalty) → IsCovered (labels_in (slice_set made n.stop new) m.stop m.rides) m.time (pos m.penalty)
+    later m h =
+        set_still (λ (o : Option StopBags). IsCovered (bag_in o (m.rides - 1)) m.time (pos m.penalty)) made n.stop new m.stop
+        (λ covered. still (m.rides - 1) m.time (pos m.penalty) (subst (λ (o : Option StopBags). IsCovered (bag_in o (m.rides - 1)) m.time (pos m.penalty)) was covered))
+        (more m.stop (m.rides - 1) m.time (pos m.penalty) h)

@@ -1,15 +1,13 @@
 -- The rides of a schedule are those on the rows of its blocks.
-use Rattle.std.proofs.Common.{◌≡◌, ◌⊎◌, inl, inr, ℕ, ◌+◌, ◌≤◌, ◌<◌, List, [], ◌∷◌, ◌++◌, Some, length, get_or, refl, sym, ap, subst, ◌∙◌, arith}
-use Rattle.std.specs.List.{All, AllPairs, Contains, flat_map, slice_get}
-use Rattle.std.specs.List.Sorted.{IsPermutation}
+use Rattle.std.proofs.Common.{◌≡◌, inl, inr, ℕ, List, [], ◌∷◌, Some, get_or, refl, sym, ap, subst, ◌∙◌, arith}
+use Rattle.std.specs.List.{All, Contains, flat_map, slice_get}
 use Rattle.std.proofs.lemmas.Bool.{cases_lt}
-use Rattle.std.proofs.lemmas.List.Elements.{All-contains, Contains-append_cases, Contains-append_left, Contains-append_right, Contains-get_or}
+use Rattle.std.proofs.lemmas.List.Elements.{All-contains, Contains-append_cases, Contains-append_left, Contains-append_right}
 use Rattle.std.proofs.lemmas.List.Sorted.{Contains-permutation, IsPermutation-sym}
 use Rattle.std.proofs.lemmas.Option.{get_or_from_slice_get, same_Some, slice_get-get_or, slice_get_within}
-use Rattle.otp_base.specs.Adds.{FromBelow, FromSome}
+use Rattle.otp_base.specs.Adds.{FromSome}
 use Rattle.otp_model.specs.Beginnings.{Hop, IsHop}
 use Rattle.otp_model.specs.Patterns.{Spot, spot_of}
-use Rattle.otp_model.specs.declared.timetable.Call.{Call}
 use Rattle.otp_model.specs.declared.timetable.Run.{Run}
 use Rattle.otp_model.specs.Journeys.{IsRideOn}
 use Rattle.otp_model.specs.Ranges.{IsTimely}
@@ -19,7 +17,7 @@ use Rattle.trip_patterns.specs.Timetables.{ArePlacesOf, IsBlock, IsPlaceOf, IsSa
 use Rattle.trip_patterns.specs.declared.timetable.BlockStop.{BlockStop}
 use Rattle.raptor_rounds.specs.declared.ready.Ready.{Ready}
 use Rattle.raptor_rounds.specs.Closure.{Entry}
-use Rattle.raptor_rounds.specs.Rides.{Boards, Catches, CatchesAt, CatchesIn, IsTimelyLane, StopsAt}
+use Rattle.raptor_rounds.specs.Rides.{Boards, CatchesAt, IsTimelyLane, StopsAt}
 use Rattle.raptor_rounds.proofs.LaneLemmas.{all_at, pairs_at, spot_at}
 
 -- ---- what a list has, and where

@@ -1,5 +1,5 @@
 -- Where first and further rides are settled, every beginning is: met by a label, or lost.
-use Rattle.std.proofs.Common.{◌≡◌, ◌⊎◌, inl, inr, ℕ, ◌+◌, ◌≤◌, ◌<◌, max, ℤ, pos, ◌+ℤ◌, ◌≤ℤ◌, List, [], ◌∷◌, length, refl, sym, ◌∙◌, subst, arith, zero-add}
+use Rattle.std.proofs.Common.{◌≡◌, inl, inr, ℕ, ◌+◌, ◌≤◌, max, ℤ, pos, ◌+ℤ◌, ◌≤ℤ◌, List, [], ◌∷◌, length, refl, sym, ◌∙◌, subst, arith, zero-add}
 use Rattle.std.proofs.lemmas.Int.{ints}
 use Rattle.otp_model.specs.declared.timetable.Call.{Call}
 use Rattle.otp_model.specs.declared.timetable.Run.{Run}
@@ -8,14 +8,14 @@ use Rattle.otp_model.specs.declared.journey.Request.{Request}
 use Rattle.otp_model.specs.declared.journey.Value.{Value}
 use Rattle.otp_model.specs.declared.journey.Leg.{Leg}
 use Rattle.otp_model.specs.declared.journey.Leg.TheVariants.{Walk}
-use Rattle.otp_model.specs.Beginnings.{Hop, IsHop, IsBeginning, cost_at, departs, hop_penalty, legs_onto, penalty, walk_penalty}
+use Rattle.otp_model.specs.Beginnings.{Hop, IsHop, IsBeginning, departs, hop_penalty, legs_onto, penalty, walk_penalty}
 use Rattle.otp_model.specs.Limits.{least_walk_points}
 use Rattle.otp_model.specs.Plane.{IsReached}
-use Rattle.otp_model.specs.Journeys.{HasValue, IsTransfer, rides_of, departure_of, arrival_of, cost_of}
+use Rattle.otp_model.specs.Journeys.{HasValue, IsTransfer}
 use Rattle.otp_model.specs.Whole.{IsNoWorse as IsNoWorseValue, IsOffered}
 use Rattle.otp_model.proofs.BeginningLemmas.{split, rides_onto, arrival_onto, departure_onto, cost_onto}
 use Rattle.raptor_rounds.specs.Bounds.{Bounds, AreBounds}
-use Rattle.raptor_rounds.specs.Closure.{Entry, End, IsNoWorse, IsMet, IsEnded, IsLostEntry, IsSettled, AreStartsSettled, Reaches, IsScanned, IsClosed, IsValueOf, end_at, entry_of_hops, first_entry, next_entry}
+use Rattle.raptor_rounds.specs.Closure.{Entry, End, IsNoWorse, IsMet, IsEnded, IsLostEntry, IsSettled, Reaches, IsClosed, IsValueOf, end_at, entry_of_hops, next_entry}
 use Rattle.raptor_rounds.proofs.LostLemmas.{trans_ℤ, same_ℤ, costs_more, lost_worse, lost_more, lost_walk, lost_ride, lost_end}
 
 pub no_worse_same : (e : Entry) → IsNoWorse e e

@@ -1,17 +1,15 @@
 -- The legs that labels keep.
-use Rattle.std.proofs.Common.{◌≡◌, ℕ, ◌+◌, ◌≤◌, ◌<◌, ℤ, pos, ◌+ℤ◌, List, [], ◌∷◌, ◌++◌, Option, Some, None, IfSome, length, get_or, refl, sym, ap, subst, ◌∙◌, arith}
+use Rattle.std.proofs.Common.{◌≡◌, ℕ, ◌≤◌, ◌<◌, pos, List, [], ◌∷◌, ◌++◌, Option, Some, None, IfSome, length, get_or, refl, sym, ap, subst, ◌∙◌, arith}
 use Rattle.std.specs.List.{Contains, slice_get}
 use Rattle.std.proofs.lemmas.List.{append_assoc}
 use Rattle.std.proofs.lemmas.List.Elements.{All-contains}
 use Rattle.std.proofs.lemmas.Option.{get_or_from_slice_get, same_Some, slice_get_within}
-use Rattle.otp_model.specs.Beginnings.{Hop, IsBeginning, legs_onto}
-use Rattle.otp_model.specs.Journeys.{IsJourney}
+use Rattle.otp_model.specs.Beginnings.{Hop, legs_onto}
 use Rattle.otp_model.specs.Limits.{least_walk_points}
 use Rattle.otp_model.specs.Plane.{IsReached}
 use Rattle.otp_model.specs.declared.journey.Leg.{Leg}
 use Rattle.otp_model.specs.declared.journey.Leg.TheVariants.{Walk, Ride}
 use Rattle.otp_model.specs.declared.journey.Request.{Request}
-use Rattle.otp_model.specs.declared.journey.Value.{Value}
 use Rattle.otp_model.specs.declared.run_name.RunName.{RunName}
 use Rattle.otp_model.specs.declared.timetable.Call.{Call}
 use Rattle.otp_model.specs.declared.timetable.Edges.{Edges}
@@ -23,7 +21,7 @@ use Rattle.raptor_rounds.specs.declared.node.Final.{Final}
 use Rattle.raptor_rounds.specs.declared.node.Node.{Node}
 use Rattle.raptor_rounds.specs.declared.state.RoundState.{RoundState}
 use Rattle.raptor_rounds.specs.Closure.{End, Entry, end_at, entry_of_hops}
-use Rattle.raptor_rounds.specs.Labels.{HasChain, IsChain, IsFinal, IsFound, IsHopOf, IsLink, KeepsHop, end_of, entry_of}
+use Rattle.raptor_rounds.specs.Labels.{HasChain, IsChain, IsFinal, IsFound, IsHopOf, IsLink, KeepsHop, end_of}
 use Rattle.raptor_rounds.specs.States.{IsSearched}
 use Rattle.raptor_rounds.proofs.BlockLemmas.{block_is}
 use Rattle.raptor_rounds.proofs.LaneLemmas.{all_at, within_pattern}

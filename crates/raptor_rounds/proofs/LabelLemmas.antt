@@ -1,12 +1,12 @@
 -- Each label stands for a beginning of a journey.
-use Rattle.std.proofs.Common.{◌≡◌, ◌⊎◌, inl, inr, ℕ, ◌+◌, ◌≤◌, ◌<◌, max, ℤ, pos, ◌+ℤ◌, ◌-ℤ◌, ◌≤ℤ◌, List, [], ◌∷◌, Option, Some, None, length, get_or, refl, sym, ap, subst, ◌∙◌, arith}
-use Rattle.std.specs.List.{Contains, slice_get}
+use Rattle.std.proofs.Common.{◌≡◌, inl, inr, ℕ, ◌+◌, ◌≤◌, max, ℤ, pos, ◌+ℤ◌, ◌-ℤ◌, ◌≤ℤ◌, List, [], ◌∷◌, Option, Some, None, length, refl, sym, ap, subst, ◌∙◌, arith}
+use Rattle.std.specs.List.{slice_get}
 use Rattle.std.proofs.lemmas.Bool.{cases_lt}
 use Rattle.std.proofs.lemmas.Int.{ints}
-use Rattle.std.proofs.lemmas.Option.{get_or_from_slice_get, same_Some, slice_get-get_or, slice_get_within}
+use Rattle.std.proofs.lemmas.Option.{get_or_from_slice_get, slice_get_within}
 use Rattle.otp_base.specs.Adds.{FromSome}
 use Rattle.otp_base.specs.EachAt.{EachAt}
-use Rattle.otp_model.specs.Beginnings.{Hop, IsBeginning, IsHop, departs, hop_penalty, penalty}
+use Rattle.otp_model.specs.Beginnings.{Hop, IsHop, departs, hop_penalty, penalty}
 use Rattle.otp_model.specs.Journeys.{IsTransfer}
 use Rattle.otp_model.specs.Plane.{IsReached}
 use Rattle.otp_model.specs.declared.journey.Request.{Request}
@@ -20,9 +20,9 @@ use Rattle.walk_table.specs.declared.reach.Reach.{Reach}
 use Rattle.raptor_rounds.specs.declared.node.Node.{Node}
 use Rattle.raptor_rounds.specs.declared.ready.Ready.{Ready}
 use Rattle.raptor_rounds.specs.declared.state.RoundState.{RoundState}
-use Rattle.raptor_rounds.specs.Closure.{Entry, entry_of_hops}
-use Rattle.raptor_rounds.specs.Labels.{IsChain, IsHopOf, IsLabelOf, IsLink, entry_of}
-use Rattle.raptor_rounds.specs.Rides.{IsInTime, IsRidden, IsRiddenOn, alight_entry, ready_at, ready_by}
+use Rattle.raptor_rounds.specs.Closure.{Entry}
+use Rattle.raptor_rounds.specs.Labels.{IsChain, IsHopOf, IsLabelOf, IsLink}
+use Rattle.raptor_rounds.specs.Rides.{IsRidden, IsRiddenOn, ready_at, ready_by}
 use Rattle.raptor_rounds.specs.Scans.{IsNext, IsStartedBy}
 use Rattle.raptor_rounds.specs.States.{Settles}
 use Rattle.raptor_rounds.proofs.BlockLemmas.{run_of_row}

@@ -1,5 +1,5 @@
 -- The first row of a lane that is in time is as good as any other that is.
-use Rattle.std.proofs.Common.{◌≡◌, ◌⊎◌, inl, inr, ℕ, ◌+◌, ◌≤◌, ◌<◌, ℤ, ◌≤ℤ◌, ◌<ℤ◌, List, Bool, true, false, Option, Some, None, length, map, get_or, refl, sym, ap, subst, ◌∙◌, arith, IsTrue, IfSome}
+use Rattle.std.proofs.Common.{◌≡◌, inl, inr, ℕ, ◌≤◌, ◌<◌, ℤ, ◌≤ℤ◌, ◌<ℤ◌, List, Bool, true, false, Option, Some, None, length, map, get_or, refl, sym, ap, subst, ◌∙◌, arith, IsTrue, IfSome}
 use Rattle.std.specs.List.{All, AllPairs, slice_get}
 use Rattle.std.specs.Option.{option_map}
 use Rattle.std.proofs.lemmas.Bool.{cases_lt}
@@ -9,17 +9,14 @@ use Rattle.std.proofs.lemmas.Option.{get_or_from_slice_get, same_Some, slice_get
 use Rattle.otp_base.specs.Adds.{FromBelow}
 use Rattle.otp_model.specs.Patterns.{Spot, pattern_of, spot_of}
 use Rattle.otp_model.specs.declared.journey.Request.{Request}
-use Rattle.otp_model.specs.declared.run_name.RunName.{RunName}
 use Rattle.otp_model.specs.declared.timetable.Call.{Call}
 use Rattle.otp_model.specs.declared.timetable.Run.{Run}
-use Rattle.otp_model.specs.Journeys.{IsRideOn}
-use Rattle.otp_model.specs.Ranges.{IsCallInRange, IsTime, IsTimely}
+use Rattle.otp_model.specs.Ranges.{IsCallInRange, IsTimely}
 use Rattle.trip_patterns.specs.Lanes.{IsCallAt, IsFirstCatch, IsLane, IsNoEarlier, LaneOf}
-use Rattle.raptor_rounds.specs.declared.node.Node.{Node}
 use Rattle.raptor_rounds.specs.declared.ready.LanePlace.{LanePlace}
 use Rattle.raptor_rounds.specs.declared.ready.Ready.{Ready}
 use Rattle.raptor_rounds.specs.Closure.{Entry, IsNoWorse}
-use Rattle.raptor_rounds.specs.Rides.{AlightsAt, Catches, IsBoarded, IsInTime, IsNodeInRange, IsReadyInRange, IsRiddenOn, IsTimelyLane, IsUntil, StopsAt, alight_entry, node_at}
+use Rattle.raptor_rounds.specs.Rides.{AlightsAt, Catches, IsBoarded, IsNodeInRange, IsReadyInRange, IsRiddenOn, IsTimelyLane, IsUntil, StopsAt, alight_entry, node_at}
 use Rattle.raptor_rounds.proofs.LostLemmas.{same_ℤ, trans_ℤ}
 
 -- what holds of each holds of the one that is read

@@ -5,6 +5,7 @@ mod ClosureLemmas
 mod JourneyLemmas
 mod LabelLemmas
 mod LaneLemmas
+mod LawLemmas
 mod LostLemmas
 mod MomentLemmas
 mod RoundLemmas

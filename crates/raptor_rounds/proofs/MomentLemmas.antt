@@ -1,5 +1,5 @@
 -- The moments at which journeys depart.
-use Rattle.std.proofs.Common.{◌≡◌, ◌↔◌, ℕ, ◌+◌, ◌≤◌, ◌<◌, ℤ, pos, neg_ℤ, ◌-ℤ◌, ◌≤ℤ◌, ◌<ℤ◌, List, [], ◌∷◌, Bool, true, Option, Some, None, length, map, get_or, refl, sym, ap, subst, ◌∙◌, arith}
+use Rattle.std.proofs.Common.{◌≡◌, ◌↔◌, ℕ, ℤ, pos, ◌-ℤ◌, List, [], true, Option, Some, None, map, get_or, refl, sym, ap, ◌∙◌, arith}
 use Rattle.std.specs.List.{All, AllPairs, Contains, slice_get}
 use Rattle.std.specs.Option.{option_map_or}
 use Rattle.std.specs.List.{dedup}
@@ -24,7 +24,7 @@ use Rattle.otp_model.specs.declared.timetable.Run.{Run}
 use Rattle.trip_patterns.specs.Lanes.{LaneOf, departure_at}
 use Rattle.trip_patterns.specs.Timetables.{StandsFor}
 use Rattle.walk_table.specs.declared.reach.Reach.{Reach}
-use Rattle.raptor_rounds.specs.Moments.{AreMoments, IsEarlier, IsMomentBy, IsMomentFrom, IsMomentIn, IsMomentOn}
+use Rattle.raptor_rounds.specs.Moments.{AreMoments, IsEarlier, IsMomentFrom, IsMomentIn}
 use Rattle.raptor_rounds.proofs.BlockLemmas.{has_at, on_row}
 use Rattle.raptor_rounds.proofs.LaneLemmas.{all_at}
 
@@ -44,10 +44,12 @@ times_in_range position runs timely =
 -- a row departs as its column says
 departs_at : (position row : ℕ) (runs : List Run) (run : Run) (call : Call) → slice_get runs row ≡ Some run → slice_get run.calls position ≡ Some call → Contains (map (departure_at position) runs) call.departure
 departs_at position row runs run call run_is call_is =
-    let less = slice_get_within runs row run run_is in
-    (row, omega (arith, less, length-map runs (departure_at position)),
-    get_or-map (departure_at position) runs row run call.departure less ∙ ap (departure_at position) (get_or_from_slice_get runs row run run run_is)
-    ∙ ap (λ (o : Option Call). option_map_or (λ (c : Call). c.departure) o (pos 0)) call_is)
+    let less = slice_get_within runs row run run_is in (
+      row,
+      omega (arith, less, length-map runs (departure_at position)),
+      get_or-map (departure_at position) runs row run call.departure less ∙ ap (departure_at position) (get_or_from_slice_get runs row run run run_is)
+          ∙ ap (λ (o : Option Call). option_map_or (λ (c : Call). c.departure) o (pos 0)) call_is,
+    )
 
 -- ---- the order
 
@@ -80,10 +82,23 @@ module _ (runs : List Run) (blocks : List (List LaneOf)) (stands : StandsFor blo
       → FromSome (IsMomentFrom blocks r) starts (h.board.departure -ℤ pos h.walk)
   has_moment h from hop in_window =
       let x = on_row blocks runs stands h hop in
-      let ride = x.ride in
-      (record { stop = h.board.stop; seconds = h.walk }, from,
-      (x.place, x.is_place, (x.lanes, x.lanes_are, (x.lane, has_at x.lanes x.number x.lane x.lane_is,
-      (h.board.departure, departs_at (x.place).position x.row (x.lane).runs x.run h.board x.run_is ride.boards, (refl, in_window))))))
+      let ride = x.ride in (
+        record { stop = h.board.stop; seconds = h.walk },
+        from,
+        (
+          x.place,
+          x.is_place,
+          (
+            x.lanes,
+            x.lanes_are,
+            (
+              x.lane,
+              has_at x.lanes x.number x.lane x.lane_is,
+              (h.board.departure, departs_at (x.place).position x.row (x.lane).runs x.run h.board x.run_is ride.boards, (refl, in_window)),
+            ),
+          ),
+        ),
+      )
 
   pub moments_are : (found moments : List ℤ) → Adds (FromSome (IsMomentFrom blocks r) starts) [] found → ((t : ℤ) → Contains moments t ↔ Contains found t) → AllPairs IsEarlier moments → AreMoments runs r starts moments
   moments_are found moments adds same rise =

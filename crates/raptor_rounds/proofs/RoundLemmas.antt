@@ -1,19 +1,15 @@
 -- Round by round: what is kept, and what all rounds for a departure leave.
-use Rattle.std.proofs.Common.{◌≡◌, ◌⊎◌, inl, inr, ℕ, ◌+◌, ◌*◌, ◌≤◌, ◌<◌, ℤ, pos, ◌+ℤ◌, ◌-ℤ◌, ◌*ℤ◌, ◌≤ℤ◌, List, [], ◌∷◌, ◌++◌, Some, length, refl, sym, ap, subst, ◌∙◌, arith, unsigned_abs}
-use Rattle.std.specs.List.{All, Any, Contains, slice_get}
+use Rattle.std.proofs.Common.{◌≡◌, inl, inr, ℕ, ◌+◌, ◌*◌, ◌≤◌, ◌<◌, ℤ, pos, ◌+ℤ◌, ◌-ℤ◌, ◌≤ℤ◌, List, [], ◌∷◌, ◌++◌, length, refl, sym, ap, subst, ◌∙◌, arith, unsigned_abs}
+use Rattle.std.specs.List.{All, Contains}
 use Rattle.std.proofs.lemmas.Bool.{cases_lt}
 use Rattle.std.proofs.lemmas.Int.{ints}
 use Rattle.std.proofs.lemmas.List.Elements.{All-contains, Contains-append_left, Contains-push, Contains-push_cases}
-use Rattle.std.proofs.lemmas.Option.{get_or_from_slice_get, slice_get_within}
+use Rattle.std.proofs.lemmas.Option.{slice_get_within}
 use Rattle.otp_base.specs.Adds.{FromBelow, FromSome}
 use Rattle.otp_model.specs.Beginnings.{Hop, IsHop, cost_at, walk_penalty}
-use Rattle.otp_model.specs.Journeys.{IsRideOn}
 use Rattle.otp_model.specs.Plane.{IsReached}
 use Rattle.otp_model.specs.Ranges.{CanSearch, IsTimely}
-use Rattle.otp_model.specs.Whole.{IsNoWorse, IsOffered}
 use Rattle.otp_model.specs.declared.journey.Request.{Request}
-use Rattle.otp_model.specs.declared.journey.Value.{Value}
-use Rattle.otp_model.specs.declared.run_name.RunName.{RunName}
 use Rattle.otp_model.specs.declared.timetable.Call.{Call}
 use Rattle.otp_model.specs.declared.timetable.Edges.{Edges}
 use Rattle.otp_model.specs.declared.timetable.Run.{Run}
@@ -25,17 +21,16 @@ use Rattle.raptor_rounds.specs.declared.node.Final.{Final}
 use Rattle.raptor_rounds.specs.declared.node.Node.{Node}
 use Rattle.raptor_rounds.specs.declared.state.RoundState.{RoundState}
 use Rattle.raptor_rounds.specs.Bounds.{AreBounds, zero_bounds}
-use Rattle.raptor_rounds.specs.Closure.{Entry, End, AreStartsSettled, IsClosed, IsScanned, IsValueOf, end_at, first_entry}
+use Rattle.raptor_rounds.specs.Closure.{Entry, End, IsScanned, IsValueOf, end_at, first_entry}
 use Rattle.raptor_rounds.specs.Labels.{InArena, InFinals, IsLabelOf, end_of, entry_of, final_by}
-use Rattle.raptor_rounds.specs.Rides.{Boards, IsNodeInRange, IsRidden, IsRiddenOn, alight_entry, ready_at, ready_by}
+use Rattle.raptor_rounds.specs.Rides.{IsNodeInRange, IsRiddenOn, ready_at, ready_by}
 use Rattle.raptor_rounds.specs.Scans.{GoesOnAt, IsNext, IsStartedBy, StartsBy}
 use Rattle.raptor_rounds.specs.States.{AreFinalsEnough, IsOfRound, IsRound, IsScannedBelow, IsSearched, IsStateSettled, Saw, SawDepartureOf, Settles, bounds_of}
 use Rattle.raptor_rounds.proofs.ClosureLemmas.{dominated}
 use Rattle.raptor_rounds.proofs.LabelLemmas.{each_grown, label_kept, label_next, label_started}
 use Rattle.raptor_rounds.proofs.LaneLemmas.{pairs_at}
-use Rattle.raptor_rounds.proofs.LostLemmas.{same_ℤ, zero_are_bounds}
+use Rattle.raptor_rounds.proofs.LostLemmas.{zero_are_bounds}
 use Rattle.raptor_rounds.proofs.SettleLemmas.{still_settled}
-use Rattle.raptor_rounds.proofs.WalkLemmas.{read_kept}
 
 -- ---- a label that came
 
@@ -198,7 +193,7 @@ module _ (runs : List Run) (blocks : List (List LaneOf)) (edges : Edges) (r : Re
             final_end r on.0 on.1 reach (open_is.in_range on.0 on.1 on.2) ∙ ap (λ (x : Entry). end_at r x egress) on.3,
           )
 
-  zero_bounds_hold : All IsTimely runs → AreBounds runs edges r zero_bounds
+  pub zero_bounds_hold : All IsTimely runs → AreBounds runs edges r zero_bounds
   zero_bounds_hold timely = zero_are_bounds runs edges r (λ run from to name board alight on ride.
       pairs_at (λ (earlier later : Call). earlier.departure ≤ℤ later.arrival) run.calls from to board alight ((All-contains IsTimely runs run timely on).forward) ride.before ride.boards ride.alights)
 

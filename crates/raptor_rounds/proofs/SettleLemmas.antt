@@ -1,6 +1,6 @@
 -- How what is settled by steps joins.
-use Rattle.std.proofs.Common.{◌≡◌, ◌⊎◌, inl, inr, ℕ, ◌+◌, ◌≤◌, ◌<◌, ℤ, pos, ◌≤ℤ◌, List, [], ◌∷◌, ◌++◌, Some, length, get_or, take, refl, sym, ap, subst, ◌∙◌, arith, zero-add}
-use Rattle.std.specs.List.{All, Contains, slice_get}
+use Rattle.std.proofs.Common.{◌≡◌, ◌⊎◌, inl, inr, ℕ, ◌+◌, ◌≤◌, ◌<◌, ℤ, pos, ◌≤ℤ◌, List, [], ◌∷◌, ◌++◌, Some, length, get_or, take, refl, sym, ap, subst, ◌∙◌, arith}
+use Rattle.std.specs.List.{Contains, slice_get}
 use Rattle.std.proofs.lemmas.Bool.{cases_lt}
 use Rattle.std.proofs.lemmas.Int.{ints}
 use Rattle.std.proofs.lemmas.List.{take_more, take_all, get_or_default}
@@ -9,15 +9,14 @@ use Rattle.otp_base.specs.Adds.{Adds, FromBelow, FromSome}
 use Rattle.otp_base.specs.EachAt.{EachAt}
 use Rattle.otp_base.proofs.EachAtLemmas.{each_push, each_weaker}
 use Rattle.otp_model.specs.declared.journey.Request.{Request}
-use Rattle.label_bags.specs.declared.label.Label.{Label}
 use Rattle.walk_table.specs.declared.reach.Reach.{Reach}
 use Rattle.raptor_rounds.specs.declared.node.Node.{Node}
 use Rattle.raptor_rounds.specs.declared.node.Final.{Final}
 use Rattle.raptor_rounds.specs.declared.state.RoundState.{RoundState}
-use Rattle.raptor_rounds.specs.Closure.{Entry, End, IsMet, IsNoWorse}
+use Rattle.raptor_rounds.specs.Closure.{Entry, IsMet, IsNoWorse}
 use Rattle.raptor_rounds.specs.Labels.{HasFinals, InArena, InFinals, IsFinal, IsFinalBy, entry_of, final_by}
 use Rattle.raptor_rounds.specs.Rides.{IsNodeInRange}
-use Rattle.raptor_rounds.specs.States.{AreBags, IsCoveredAt, IsEntryOf, IsInRangeAt, IsItself, IsLate, IsOpen, IsOpenAt, IsStateSettled, Settles, bounds_of}
+use Rattle.raptor_rounds.specs.States.{AreBags, IsCoveredAt, IsEntryOf, IsInRangeAt, IsItself, IsKeptCovered, IsLate, IsOpenAt, IsStateSettled, Settles, bounds_of}
 use Rattle.raptor_rounds.proofs.ArenaLemmas.{kept_push, last_push, push_cases}
 use Rattle.raptor_rounds.proofs.ClosureLemmas.{no_worse_same, settled_more, settled_worse}
 use Rattle.raptor_rounds.proofs.LostLemmas.{same_ℤ}
@@ -136,6 +135,7 @@ pub record IsPushed (r : Request) (n : Node) (old new : RoundState) : Type 0 whe
   pub departures_are : new.departures.items ≡ old.departures.items
   pub arena_is : new.arena.items ≡ old.arena.items ++ n ∷ []
   pub bags_are : AreBags (old.arena.items ++ n ∷ []) new.bags.items
+  pub covered : EachAt (IsKeptCovered new.bags.items) (old.arena.items ++ n ∷ [])
   pub finals_are : Adds (FromSome (IsFinalBy r (length old.arena.items) n) old.egress.items) old.finals.items new.finals.items
 
 module _ (r : Request) (n : Node) (old new : RoundState) (range : IsNodeInRange r n) (open_is : IsOpenAt r n.departure old) (p : IsPushed r n old new) where
@@ -168,6 +168,7 @@ module _ (r : Request) (n : Node) (old new : RoundState) (range : IsNodeInRange 
   open_pushed = record {
     open_is = record {
       bags_are = rw p.arena_is p.bags_are;
+      covered = rw p.arena_is p.covered;
       in_range = rw p.arena_is (each_push (IsInRangeAt r) old.arena.items n open_is.open_is.in_range range);
       ended = rw (p.arena_is, p.egress_is) has_finals;
       finals_are = rw (p.arena_is, p.egress_is) (All-weaker (Contains new.finals.items) (IsFinal r old.egress.items (old.arena.items ++ n ∷ [])) is_final new.finals.items (All-contains_itself new.finals.items));

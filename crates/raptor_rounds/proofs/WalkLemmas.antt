@@ -1,5 +1,5 @@
 -- Further rides: edge by edge, and label by label.
-use Rattle.std.proofs.Common.{◌≡◌, ◌⊎◌, inl, inr, ℕ, ◌+◌, ◌≤◌, ◌<◌, max, ℤ, pos, ◌+ℤ◌, ◌≤ℤ◌, List, [], ◌∷◌, Some, length, get_or, refl, sym, ap, subst, ◌∙◌, arith}
+use Rattle.std.proofs.Common.{◌≡◌, ℕ, ◌+◌, ◌≤◌, ◌<◌, ℤ, List, [], ◌∷◌, Some, length, get_or, sym, ap, subst, ◌∙◌, arith}
 use Rattle.std.specs.List.{Contains, slice_get}
 use Rattle.std.proofs.lemmas.Option.{get_or_from_slice_get, same_Some, slice_get-get_or, slice_get_within}
 use Rattle.otp_base.specs.Adds.{FromBelow, FromSome}
@@ -11,11 +11,9 @@ use Rattle.otp_model.specs.declared.timetable.Run.{Run}
 use Rattle.trip_patterns.specs.Lanes.{LaneOf}
 use Rattle.raptor_rounds.specs.declared.node.Node.{Node}
 use Rattle.raptor_rounds.specs.declared.state.RoundState.{RoundState}
-use Rattle.raptor_rounds.specs.Closure.{Entry, Reaches}
-use Rattle.raptor_rounds.specs.Labels.{entry_of}
-use Rattle.raptor_rounds.specs.Rides.{alight_entry, ready_by}
+use Rattle.raptor_rounds.specs.Closure.{Entry}
 use Rattle.raptor_rounds.specs.Scans.{GoesOn, GoesOnAt, IsNext, IsNextOf, IsWalkedBy, WalksBy}
-use Rattle.raptor_rounds.specs.States.{IsOfRound, Settles}
+use Rattle.raptor_rounds.specs.States.{Settles}
 use Rattle.raptor_rounds.proofs.SettleLemmas.{settles_for, settles_more_below}
 
 -- to take a further ride is to take one of the edges from the label's stop

@@ -1,5 +1,5 @@
 -- Least seconds and points to the destination, by the number of rides that are left.
-use Rattle.std.specs.Prelude.{◌≡◌, ℕ, ◌+◌, ◌≤◌, ◌<◌, max, ℤ, pos, ◌+ℤ◌, ◌≤ℤ◌, List, Some, slice_get}
+use Rattle.std.specs.Prelude.{◌≡◌, ℕ, ◌+◌, ◌≤◌, ◌<◌, max, pos, ◌+ℤ◌, ◌≤ℤ◌, List, Some, slice_get}
 use Rattle.std.specs.List.{Contains}
 use Rattle.otp_model.specs.declared.run_name.RunName.{RunName}
 use Rattle.otp_model.specs.declared.timetable.Call.{Call}

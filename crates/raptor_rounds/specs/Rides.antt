@@ -1,11 +1,10 @@
 -- What is ready at a stop for a ride: the rides that it may take, and the labels that come of them.
 use Rattle.std.specs.Prelude.{◌≡◌, ℕ, ◌+◌, ◌*◌, ◌^◌, ◌≤◌, ◌<◌, max, ℤ, pos, neg_ℤ, ◌+ℤ◌, ◌≤ℤ◌, List, Option, Some, None, length, slice_get, IsTrue}
-use Rattle.std.specs.List.{All, Contains}
-use Rattle.otp_base.specs.Adds.{FromBelow, FromSome}
+use Rattle.std.specs.List.{All}
+use Rattle.otp_base.specs.Adds.{FromBelow}
 use Rattle.otp_model.specs.declared.run_name.RunName.{RunName}
 use Rattle.otp_model.specs.declared.timetable.Call.{Call}
 use Rattle.otp_model.specs.declared.timetable.Edge.{Edge}
-use Rattle.otp_model.specs.declared.timetable.Edges.{Edges}
 use Rattle.otp_model.specs.declared.timetable.Run.{Run}
 use Rattle.otp_model.specs.declared.journey.Request.{Request}
 use Rattle.otp_model.specs.Patterns.{Spot}
@@ -13,7 +12,6 @@ use Rattle.otp_model.specs.Beginnings.{Hop, IsHop, hop_penalty}
 use Rattle.otp_model.specs.Journeys.{IsRideOn}
 use Rattle.otp_model.specs.Ranges.{IsRequestInRange, IsTime, IsTimely}
 use Rattle.trip_patterns.specs.Lanes.{IsLane, LaneOf}
-use Rattle.trip_patterns.specs.Timetables.{IsPlaceOf}
 use Rattle.trip_patterns.specs.declared.timetable.BlockStop.{BlockStop}
 use Rattle.walk_table.specs.declared.reach.Reach.{Reach}
 use Rattle.raptor_rounds.specs.declared.node.Node.{Node}

@@ -1,5 +1,5 @@
 -- What one round does: first rides after the access, and further rides after each label.
-use Rattle.std.specs.Prelude.{◌≡◌, ℕ, ◌≤◌, ◌<◌, ℤ, List, Some, slice_get}
+use Rattle.std.specs.Prelude.{◌≡◌, ℕ, ◌≤◌, ℤ, List, Some, slice_get}
 use Rattle.otp_base.specs.Adds.{FromSome}
 use Rattle.otp_model.specs.declared.timetable.Edge.{Edge}
 use Rattle.otp_model.specs.declared.timetable.Edges.{Edges}

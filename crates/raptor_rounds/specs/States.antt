@@ -72,6 +72,17 @@ bag_in (Some at) place = bag_or_none (slice_get at.bags.items place)
 abbrev pub labels_in : List StopBags → (stop rides : ℕ) → List Label
 labels_in bags stop rides = bag_in (slice_get bags stop) (rides - 1)
 
+abbrev pub bag_at : List (List Label) → ℕ → List Label
+bag_at bags place = bag_or_none (slice_get bags place)
+
+-- what the bags of each place covered they cover still
+abbrev pub CoverStill : (before after : ℕ → List Label) → Type 0
+CoverStill before after = (place : ℕ) (time penalty : ℤ) → IsCovered (before place) time penalty → IsCovered (after place) time penalty
+
+-- the bag of the label's stop and rides covers it
+abbrev pub IsKeptCovered : List StopBags → ℕ → Node → Type 0
+IsKeptCovered bags i n = IsCovered (labels_in bags n.stop n.rides) n.time (pos n.penalty)
+
 -- ---- the state
 
 abbrev pub labels_of : RoundState → (stop rides : ℕ) → List Label
@@ -100,6 +111,7 @@ IsInRangeAt r i n = IsNodeInRange r n
 -- the bags, the arena and the finals belong together
 pub record IsOpen (r : Request) (s : RoundState) : Type 0 where
   pub bags_are : AreBags s.arena.items s.bags.items
+  pub covered : EachAt (IsKeptCovered s.bags.items) s.arena.items
   pub in_range : EachAt (IsInRangeAt r) s.arena.items
   pub ended : EachAt (HasFinals r s.egress.items s.finals.items) s.arena.items
   pub finals_are : All (IsFinal r s.egress.items s.arena.items) s.finals.items

@@ -1,7 +1,8 @@
-ghost use Rattle.std.specs.Prelude.{◌≡◌, ◌<◌, ◌≤◌, ◌^◌, ◌++◌, [], ◌∷◌, ℕ, List, pos, length, slice_get, IsTrue, OnOk};
+ghost use Rattle.std.specs.Prelude.{◌≡◌, ◌<◌, ◌≤◌, ◌^◌, ◌-◌, ◌++◌, [], ◌∷◌, ℕ, List, pos, length, slice_get, IsTrue, OnOk};
+ghost use Rattle.otp_base.specs.EachAt.{EachAt};
 ghost use Rattle.label_bags.specs.Bags.{IsCovered};
 ghost use Rattle.raptor_rounds.specs.declared.node.Node.{Node as NodeOf};
-ghost use Rattle.raptor_rounds.specs.States.{AreBags, AreBagsIn, IsCoveredAt, IsCoveredIn, bag_or_none, label_of as label_in, labels_in};
+ghost use Rattle.raptor_rounds.specs.States.{AreBags, AreBagsIn, CoverStill, IsCoveredAt, IsCoveredIn, IsKeptCovered, bag_at, bag_in, bag_or_none, label_of as label_in, labels_in};
 
 use crate::node::Node;
 use label_bags::{Bag, Label};
@@ -56,7 +57,8 @@ pub fn put_label(
 ) -> Result<(), Memory>
     requires penalty { node.now.penalty < 2 ^ 62 }
     requires some { 1 ≤ node.now.rides }
-    ensures { OnOk result ((arena : List NodeOf) → length arena ≡ number → AreBags arena bags.old.items → AreBags (arena ++ node.now ∷ []) bags.new.items) }
+    ensures bags { OnOk result ((arena : List NodeOf) → length arena ≡ number → AreBags arena bags.old.items → AreBags (arena ++ node.now ∷ []) bags.new.items) }
+    ensures covered { OnOk result ((arena : List NodeOf) → EachAt (IsKeptCovered bags.old.items) arena → EachAt (IsKeptCovered bags.new.items) (arena ++ node.now ∷ [])) }
 {
     let stop = node.stop as usize;
     make_stops(alloc, stop, bags)?;
@@ -68,6 +70,7 @@ pub fn put_label(
 fn make_stops(alloc: Global, stop: usize, bags: &mut Vec<StopBags>) -> Result<(), Memory>
     ensures room { OnOk result (stop < length bags.new.items) }
     ensures same { OnOk result ((arena : List NodeOf) → AreBags arena bags.old.items → AreBags arena bags.new.items) }
+    ensures still { OnOk result ((stop : ℕ) → CoverStill (bag_in (slice_get bags.old.items stop)) (bag_in (slice_get bags.new.items stop))) }
 {
     while bags.len() <= stop {
         bags.push(StopBags {
@@ -80,7 +83,9 @@ fn make_stops(alloc: Global, stop: usize, bags: &mut Vec<StopBags>) -> Result<()
 fn put_at_stop(alloc: Global, node: &Node, number: usize, bags: &mut Vec<Bag>) -> Result<(), Memory>
     requires penalty { node.now.penalty < 2 ^ 62 }
     requires some { 1 ≤ node.now.rides }
-    ensures { OnOk result ((arena : List NodeOf) → length arena ≡ number → AreBagsIn arena node.now.stop bags.old.items → AreBagsIn (arena ++ node.now ∷ []) node.now.stop bags.new.items) }
+    ensures bags { OnOk result ((arena : List NodeOf) → length arena ≡ number → AreBagsIn arena node.now.stop bags.old.items → AreBagsIn (arena ++ node.now ∷ []) node.now.stop bags.new.items) }
+    ensures still { OnOk result (CoverStill (bag_at bags.old.items) (bag_at bags.new.items)) }
+    ensures covered { OnOk result (IsCovered (bag_at bags.new.items (node.now.rides - 1)) node.now.time (pos node.now.penalty)) }
 {
     let place = node.rides as usize - 1;
     make_bags(alloc, place, bags)?;
@@ -93,6 +98,7 @@ fn put_at_stop(alloc: Global, node: &Node, number: usize, bags: &mut Vec<Bag>) -
 fn make_bags(alloc: Global, place: usize, bags: &mut Vec<Bag>) -> Result<(), Memory>
     ensures room { OnOk result (place < length bags.new.items) }
     ensures same { OnOk result ((arena : List NodeOf) (stop : ℕ) → AreBagsIn arena stop bags.old.items → AreBagsIn arena stop bags.new.items) }
+    ensures still { OnOk result (CoverStill (bag_at bags.old.items) (bag_at bags.new.items)) }
 {
     while bags.len() <= place {
         bags.push(Bag::new(alloc))?;

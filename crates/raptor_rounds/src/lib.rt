@@ -4,6 +4,7 @@
 mod bags;
 mod board;
 mod journey;
+mod laws;
 mod moments;
 mod node;
 mod offer;
@@ -15,6 +16,7 @@ mod state;
 mod walk;
 
 pub use journey::journey_of;
+pub use laws::bags_cover;
 pub use moments::moments_of;
 pub use node::Final;
 pub use round::rounds;

@@ -1,8 +1,7 @@
-use Rattle.std.proofs.Common.{arith, get_or, length, refl, sym, subst, List, take}
-use Rattle.std.proofs.lemmas.List.{get_or_default, take_all}
+use Rattle.std.proofs.Common.{arith, subst, List}
+use Rattle.std.proofs.lemmas.List.{take_all}
 use Rattle.raptor_rounds.specs.declared.node.Final.{Final}
-use Rattle.raptor_rounds.specs.States.{finals_of}
-use Rattle.range_search.specs.Searches.{AreOffers, IsKept}
+use Rattle.range_search.specs.Searches.{AreOffers}
 use Rattle.range_search.proofs.OfferLemmas.{kept_at, offers_more_at, offers_none}
 use Rattle.range_search.proofs.offers.offers_of.Goals as goal
 

@@ -1,6 +1,4 @@
-use Rattle.std.proofs.Common.{arith, get_or, length, refl, subst, sym, ◌-◌, ◌+◌, ◌<◌, ◌≡◌, ℕ, ℤ, pos}
-use Rattle.std.specs.List.{Contains}
-use Rattle.raptor_rounds.specs.States.{departures_of}
+use Rattle.std.proofs.Common.{arith, length, subst, ◌-◌, ◌+◌, ◌≡◌, ℕ, pos}
 use Rattle.range_search.specs.Searches.{AreSearched, IsMomentAfter}
 use Rattle.range_search.proofs.SearchLemmas.{last_but, later_all, moment_at, one_less, searched_more, searched_none}
 use Rattle.range_search.proofs.search.search_all.Goals as goal

@@ -1,7 +1,6 @@
-use Rattle.std.proofs.Common.{arith, get_or, length, refl, ap, sym, subst, ◌∙◌}
-use Rattle.std.proofs.lemmas.Option.{slice_get_read, same_Some}
-use Rattle.trip_patterns.specs.Lanes.{LaneOf}
-use Rattle.raptor_rounds.specs.Rides.{Catches, CatchesIn, IsRiddenInBlock, IsRiddenOn, IsTimelyLane}
+use Rattle.std.proofs.Common.{arith, length, refl}
+use Rattle.std.proofs.lemmas.Option.{slice_get_read}
+use Rattle.raptor_rounds.specs.Rides.{CatchesIn, IsRiddenInBlock, IsTimelyLane}
 use Rattle.raptor_rounds.proofs.BoardLemmas.{settles_lane}
 use Rattle.raptor_rounds.proofs.LaneLemmas.{all_at}
 use Rattle.raptor_rounds.proofs.SettleLemmas.{settles_more_below}

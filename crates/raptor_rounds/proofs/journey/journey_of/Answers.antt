@@ -1,6 +1,4 @@
-use Rattle.std.proofs.Common.{sym, subst, ◌≡◌, ◌∙◌, ◌++◌, ◌∷◌, [], List, ap, ℕ}
-use Rattle.otp_model.specs.Beginnings.{Hop, legs_onto}
-use Rattle.otp_model.specs.declared.journey.Leg.{Leg}
+use Rattle.std.proofs.Common.{subst, ◌∙◌, ℕ}
 use Rattle.otp_model.specs.declared.journey.Leg.TheVariants.{Walk}
 use Rattle.raptor_rounds.specs.Labels.{IsChain}
 use Rattle.raptor_rounds.proofs.JourneyLemmas.{found_of, legs_whole}

@@ -1,6 +1,3 @@
-use Rattle.std.proofs.Common.{sym, subst, ◌∙◌, IfSome}
-use Rattle.otp_model.specs.declared.run_name.RunName.{RunName}
-use Rattle.otp_model.specs.declared.timetable.Run.{Run}
 use Rattle.raptor_rounds.proofs.JourneyLemmas.{alight_within, board_within, ride_read, row_within, two_pushed}
 use Rattle.raptor_rounds.proofs.journey.push_hop.Goals as goal
 

@@ -1,5 +1,4 @@
-use Rattle.std.proofs.Common.{arith, subst}
-use Rattle.otp_base.specs.Adds.{Adds, FromSome}
+use Rattle.std.proofs.Common.{arith}
 use Rattle.otp_base.proofs.AddsLemmas.{adds_more_at, adds_some_all}
 use Rattle.raptor_rounds.specs.Moments.{IsMomentFrom}
 use Rattle.raptor_rounds.proofs.MomentLemmas.{moments_are}

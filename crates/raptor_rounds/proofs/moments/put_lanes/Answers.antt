@@ -2,7 +2,7 @@ use Rattle.std.proofs.Common.{arith, length, refl}
 use Rattle.std.proofs.lemmas.Option.{slice_get_read}
 use Rattle.otp_base.proofs.AddsLemmas.{adds_more_some, adds_some_all}
 use Rattle.raptor_rounds.specs.Moments.{IsMomentOn}
-use Rattle.raptor_rounds.specs.Rides.{IsTimelyLane, StopsAt}
+use Rattle.raptor_rounds.specs.Rides.{IsTimelyLane}
 use Rattle.raptor_rounds.proofs.LaneLemmas.{all_at}
 use Rattle.raptor_rounds.proofs.moments.put_lanes.Goals as goal
 

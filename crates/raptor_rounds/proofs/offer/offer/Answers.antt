@@ -1,7 +1,5 @@
 use Rattle.std.proofs.Common.{◌≡◌, inl, length, refl, rules, subst, sym}
-use Rattle.otp_base.specs.Adds.{Adds, FromSome}
 use Rattle.raptor_rounds.specs.Closure.{Entry}
-use Rattle.raptor_rounds.specs.Labels.{IsFinalBy, entry_of}
 use Rattle.raptor_rounds.specs.States.{IsEntryOf, IsItself, IsStateSettled}
 use Rattle.raptor_rounds.proofs.SettleLemmas.{met_by_bag, settles_push, settles_was}
 use Rattle.raptor_rounds.proofs.offer.offer.Goals as goal
@@ -22,6 +20,7 @@ returns c =
       egress_is = refl;
       departures_are = refl;
       arena_is = c.in_ok-push.ensures.items;
-      bags_are = c.in_ok-put_label.ensures old.arena.items (sym number) c.requires.open.open_is.bags_are;
+      bags_are = c.in_ok-put_label.ensures.bags old.arena.items (sym number) c.requires.open.open_is.bags_are;
+      covered = c.in_ok-put_label.ensures.covered old.arena.items c.requires.open.open_is.covered;
       finals_are = rw (c.deref-2.ensures.value, number) at c.in_ok-push_finals.ensures;
     })

@@ -1,8 +1,8 @@
-use Rattle.std.proofs.Common.{arith, length, subst, sym}
+use Rattle.std.proofs.Common.{arith, length}
 use Rattle.std.proofs.lemmas.Option.{slice_get_within}
 use Rattle.otp_base.specs.Adds.{FromBelow}
 use Rattle.raptor_rounds.specs.Rides.{AlightsAt, Catches, IsRiddenOn}
-use Rattle.raptor_rounds.proofs.LaneLemmas.{boarded_first, catches_barred, catches_late, catches_none, first_is_best}
+use Rattle.raptor_rounds.proofs.LaneLemmas.{boarded_first, catches_late, catches_none, first_is_best}
 use Rattle.raptor_rounds.proofs.SettleLemmas.{settles_as, settles_none}
 use Rattle.raptor_rounds.proofs.ride.board_lane.Goals as goal
 

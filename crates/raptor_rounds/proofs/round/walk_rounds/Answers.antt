@@ -1,5 +1,4 @@
-use Rattle.std.proofs.Common.{arith, length, rules, subst, sym, ◌≡◌, ℕ, ◌+◌}
-use Rattle.raptor_rounds.specs.States.{IsRound}
+use Rattle.std.proofs.Common.{arith, length, rules, ◌≡◌}
 use Rattle.raptor_rounds.proofs.RoundLemmas.{finals_enough, round_more, searched_after}
 use Rattle.raptor_rounds.proofs.round.walk_rounds.Goals as goal
 

@@ -1,6 +1,6 @@
 use Rattle.std.proofs.Common.{arith}
 use Rattle.raptor_rounds.specs.Scans.{IsStartedBy, StartsBy}
-use Rattle.raptor_rounds.proofs.SettleLemmas.{settles_each, settles_some_all}
+use Rattle.raptor_rounds.proofs.SettleLemmas.{settles_each}
 use Rattle.raptor_rounds.proofs.start.start_all.Goals as goal
 
 pub loop-reach-preserved : goal.loop-reach-preserved

@@ -3,7 +3,7 @@ use Rattle.raptor_rounds.specs.declared.ready.Ready.{Ready}
 use Rattle.raptor_rounds.specs.Scans.{IsStartedBy, StartsBy}
 use Rattle.raptor_rounds.specs.States.{IsOpenAt}
 use Rattle.raptor_rounds.proofs.SettleLemmas.{settles_none}
-use Rattle.raptor_rounds.proofs.StartLemmas.{settles_start, starts_nowhere}
+use Rattle.raptor_rounds.proofs.StartLemmas.{starts_nowhere}
 use Rattle.raptor_rounds.proofs.start.start_by.Goals as goal
 
 pub returns-in-None : goal.returns-in-None

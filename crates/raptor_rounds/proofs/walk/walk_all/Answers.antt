@@ -1,4 +1,4 @@
-use Rattle.std.proofs.Common.{arith, rules, length, refl, sym, subst, ◌≡◌, ◌<◌, ◌≤◌, ℤ, vec_len}
+use Rattle.std.proofs.Common.{arith, rules, length, sym, subst, ◌≡◌, ◌<◌, ℤ, vec_len}
 use Rattle.otp_base.specs.Adds.{FromBelow}
 use Rattle.raptor_rounds.specs.Scans.{GoesOnAt, IsNext}
 use Rattle.raptor_rounds.specs.States.{IsOpenAt}

@@ -1,6 +1,6 @@
 use Rattle.std.proofs.Common.{arith}
 use Rattle.raptor_rounds.specs.Scans.{IsWalkedBy, WalksBy}
-use Rattle.raptor_rounds.proofs.SettleLemmas.{settles_each, settles_some_all}
+use Rattle.raptor_rounds.proofs.SettleLemmas.{settles_each}
 use Rattle.raptor_rounds.proofs.walk.walk_edges.Goals as goal
 
 pub loop-edge-preserved : goal.loop-edge-preserved
