@@ -36,6 +36,9 @@ status_of (refusal.Feed (feed.At cause file row column)) = status.Feed
 status_of (refusal.Feed feed.Read) = status.Read
 status_of (refusal.Feed feed.Memory) = status.Memory
 status_of (refusal.Request (target.Query cause parameter)) = status.Request
+status_of (refusal.Request target.Path) = status.Request
+status_of (refusal.Request target.FeedNumber) = status.Request
+status_of (refusal.Request target.Method) = status.Request
 status_of (refusal.Request target.Memory) = status.Memory
 status_of (refusal.Message place why) = status.Message
 status_of refusal.Read = status.Read
@@ -79,7 +82,11 @@ feed_refusal (feed.At cause file row column) = feed_line cause (name_of_file fil
 feed_refusal feed.Read = codes "read\n"
 feed_refusal feed.Memory = []
 
+-- a query alone has no path, no number of an RT feed and no method
 abbrev pub request_refusal : TargetFault → List ℕ
+request_refusal target.Path = []
+request_refusal target.FeedNumber = []
+request_refusal target.Method = []
 request_refusal (target.Query cause parameter) = request_line (cause_name cause) parameter
 request_refusal target.Memory = []
 

@@ -12,11 +12,10 @@ use Rattle.otp_model.specs.Ranges.{CanWalk}
 use Rattle.otp_model.specs.Schedule.{sched}
 use Rattle.otp_model.specs.Sound.{IsSound}
 use Rattle.otp_model.specs.Whole.{IsPage}
-use Rattle.plan_json.specs.Plan.{body_text}
+use Rattle.plan_json.specs.Body.{body_text}
 use Rattle.plan_json.specs.declared.body.Body.TheVariants.{Plan}
 use Rattle.query_form.specs.Query.{IsRefused as IsRefusedAs, query_of}
 use Rattle.query_form.specs.declared.fault.TargetFault.{TargetFault}
-use Rattle.query_form.specs.declared.fault.TargetFault.TheVariants as target
 use Rattle.walk_table.specs.Direct.{IsDirect}
 use Rattle.otp_server.specs.Messages.{BringAll, IsStopped, Told, history_of}
 use Rattle.otp_server.specs.declared.refusal.Refusal.{Refusal}
@@ -55,8 +54,7 @@ pub record IsPlanned (files : Option (List FileEntry)) (feed : Feed) (edges : Ed
 
 -- the query's first fault, or want of memory
 abbrev pub IsQueryFault : Feed → Edges → List ℕ → TargetFault → Type 0
-IsQueryFault feed edges query (target.Query cause parameter) = IsRefusedAs (query_of query feed.stops edges.profile.scale) (target.Query cause parameter)
-IsQueryFault feed edges query target.Memory = Unit {0}
+IsQueryFault feed edges query why = IsRefusedAs (query_of query feed.stops edges.profile.scale) why
 
 -- the query has no fault, and this message is refused
 pub record IsHeldUp (files : Option (List FileEntry)) (feed : Feed) (edges : Edges) (messages : List AskedMessage) (query : List ℕ) (place : ℕ) (why : Untaken) : Type 0 where

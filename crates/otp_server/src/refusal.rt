@@ -59,8 +59,8 @@ impl Refusal {
             Refusal::Feed(FeedFault::At { .. }) => Status::Feed,
             Refusal::Feed(FeedFault::Read) => Status::Read,
             Refusal::Feed(FeedFault::Memory) => Status::Memory,
-            Refusal::Request(TargetFault::Query { .. }) => Status::Request,
             Refusal::Request(TargetFault::Memory) => Status::Memory,
+            Refusal::Request(_) => Status::Request,
             Refusal::Message { .. } => Status::Message,
             Refusal::Read => Status::Read,
             Refusal::Memory => Status::Memory,
@@ -112,7 +112,11 @@ fn request_refusal(alloc: Global, fault: &TargetFault) -> Result<String, Memory>
             cause_name(*cause),
             parameter.as_str(),
         )?),
-        TargetFault::Memory => Ok(String::new(alloc)),
+        // A query alone has no path, no number of an RT feed and no method.
+        TargetFault::Path
+        | TargetFault::FeedNumber
+        | TargetFault::Method
+        | TargetFault::Memory => Ok(String::new(alloc)),
     }
 }
 

@@ -7,7 +7,7 @@ ghost use Rattle.otp_model.specs.Limits.{most_messages};
 ghost use Rattle.otp_model.specs.Schedule.{sched};
 ghost use Rattle.otp_model.specs.Sound.{AreServed};
 ghost use Rattle.otp_model.specs.declared.message.Commit.{Commit};
-ghost use Rattle.plan_json.specs.Plan.{body_text};
+ghost use Rattle.plan_json.specs.Body.{body_text};
 ghost use Rattle.plan_json.specs.declared.body.Body.TheVariants.{Plan};
 ghost use Rattle.query_form.specs.Query.{IsAsked};
 ghost use Rattle.snapshot_store.specs.Snapshots.{runs_of};

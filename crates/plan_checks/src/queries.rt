@@ -17,7 +17,7 @@ fn stop(alloc: Global, id: &str, kind: u8) -> Result<Stop, Fail> {
 }
 
 /// Two stops, a station, an entrance, and two stops whose ids need escapes.
-fn feed(alloc: Global) -> Result<Feed, Fail> {
+pub fn feed(alloc: Global) -> Result<Feed, Fail> {
     let mut stops = List::new(alloc);
     stops.push(stop(alloc, "A", 0)?)?;
     stops.push(stop(alloc, "D", 0)?)?;
@@ -37,7 +37,7 @@ fn feed(alloc: Global) -> Result<Feed, Fail> {
     })
 }
 
-fn edges(alloc: Global) -> Edges {
+pub fn edges(alloc: Global) -> Edges {
     Edges {
         stops: List::new(alloc),
         from: List::new(alloc),
@@ -50,7 +50,7 @@ fn edges(alloc: Global) -> Edges {
 }
 
 /// What `from=stop:A&to=stop:D&time=1714981600` asks for.
-const PLAIN: Request = Request {
+pub const PLAIN: Request = Request {
     from: Place::Stop(0),
     to: Place::Stop(1),
     time: 1_714_981_600,
@@ -307,10 +307,16 @@ fn reads_queries(rt: HostRuntime) -> Result<(), Fail> {
     let feed = feed(alloc)?;
     let edges = edges(alloc);
     for (query, wanted) in &asked() {
-        assert!(rt; asks_for(read(alloc, query, &feed, &edges), wanted), "{query}");
+        assert!(rt;
+            asks_for(read(alloc, query, &feed, &edges), wanted),
+            "{query}"
+        );
     }
     for (query, wanted, name) in faults() {
-        assert!(rt; has_fault(read(alloc, query, &feed, &edges), *wanted, name), "{query}");
+        assert!(rt;
+            has_fault(read(alloc, query, &feed, &edges), *wanted, name),
+            "{query}"
+        );
     }
     Ok(())
 }

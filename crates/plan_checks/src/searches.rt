@@ -1,7 +1,6 @@
 use otp_base::{List, Text};
 use otp_model::{
-    Call, Edge, Edges, Found, Place, Profile, Request, Run, RunName, Stop, StopNo, TripName,
-    Value,
+    Call, Edge, Edges, Found, Place, Profile, Request, Run, RunName, Stop, StopNo, TripName, Value,
 };
 use plain_search::all_best;
 use std::alloc::Global;

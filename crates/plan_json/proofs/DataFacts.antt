@@ -15,9 +15,11 @@ use Rattle.serde_json.specs.Find.{is_float, of_integer}
 use Rattle.serde_json.specs.View.{items_of}
 use Rattle.serde_json.specs.Written.{has_float, items_have_float, members_have_float}
 use Rattle.plan_json.specs.Journeys.{journey_data, leg_data, trip_text, with_start}
-use Rattle.plan_json.specs.Plan.{IsFoundOf, cursor_data, direct_data, plan_data}
+use Rattle.plan_json.specs.Body.{body_data}
+use Rattle.plan_json.specs.Plan.{IsFoundOf, cursor_data}
+use Rattle.plan_json.specs.Replies.{number_data, number_or_null}
 use Rattle.plan_json.specs.declared.body.Body.{Body}
-use Rattle.plan_json.specs.declared.body.Body.TheVariants.{Plan}
+use Rattle.plan_json.specs.declared.body.Body.TheVariants.{Plan, Status, Updated, Committed, Refused, Parameter, Offset, Kept}
 
 whole : (z : ℤ) → is_float (of_integer z) ≡ false
 whole (pos n) = refl
@@ -39,17 +41,24 @@ none-journey : (feed : Feed) (found : Found) → has_float (journey_data feed fo
 none-journey feed found =
     rw (whole found.value.arrival, whole found.value.departure, none-among (leg_data feed) (none-leg feed) found.journey.legs) refl
 
-none-direct : (direct : Option ℕ) → has_float (direct_data direct) ≡ false
-none-direct None = refl
-none-direct (Some seconds) = refl
+none-number : (n : Option ℕ) → has_float (number_or_null n) ≡ false
+none-number None = refl
+none-number (Some n) = refl
 
 none-cursor : (cursor : Option Cursor) → has_float (cursor_data cursor) ≡ false
 none-cursor None = refl
 none-cursor (Some cursor) = refl
 
-pub none-plan : (feed : Feed) (body : Body) → has_float (plan_data feed body) ≡ false
-none-plan feed (Plan commit cursor at_least page) =
-    rw (none-direct page.direct, none-among (journey_data feed) (none-journey feed) page.found, none-cursor (cursor_behind commit page.found)) refl
+pub none-body : (feed : Feed) (body : Body) → has_float (body_data feed body) ≡ false
+none-body feed (Status number) = refl
+none-body feed (Updated accepted commit ignored) = rw (none-number commit, none-among number_data (λ n. refl) ignored) refl
+none-body feed (Committed number fresh) = refl
+none-body feed (Refused name) = refl
+none-body feed (Parameter name parameter) = refl
+none-body feed (Offset name at) = rw (none-number at) refl
+none-body feed (Kept name have) = refl
+none-body feed (Plan commit cursor at_least page) =
+    rw (none-number page.direct, none-among (journey_data feed) (none-journey feed) page.found, none-cursor (cursor_behind commit page.found)) refl
 
 -- one value more of a list of values
 pub one-more : {X V D : Type 0} (view : V → D) (f : X → D) (values more : List V) (value : V) (xs : List X) (i : ℕ) (d : X) → i < length xs

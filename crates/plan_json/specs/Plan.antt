@@ -9,10 +9,8 @@ use Rattle.otp_model.specs.Laws.{cursor_behind}
 use Rattle.paging.specs.Text.{FitsText, cursor_text_of}
 use Rattle.serde_json.specs.Data.{Data, null, boolean, number, string, array, object, unsigned, member, no_members}
 use Rattle.serde_json.specs.View.{items_of}
-use Rattle.serde_json.specs.Written.{compact_text}
 use Rattle.plan_json.specs.Journeys.{IsLegOf, journey_data}
-use Rattle.plan_json.specs.declared.body.Body.{Body}
-use Rattle.plan_json.specs.declared.body.Body.TheVariants.{Plan}
+use Rattle.plan_json.specs.Replies.{number_or_null}
 
 -- the text of a cursor, or null where there is none
 abbrev pub cursor_data : Option Cursor → Data
@@ -22,11 +20,6 @@ cursor_data (Some cursor) = string (cursor_text_of cursor)
 -- the cursor behind the page
 abbrev pub next_data : ℕ → List Found → Data
 next_data commit found = cursor_data (cursor_behind commit found)
-
--- the seconds of the direct walk, or null
-abbrev pub direct_data : Option ℕ → Data
-direct_data None = null
-direct_data (Some seconds) = number (unsigned seconds)
 
 -- the request's cursor names another number of commits than the reply
 abbrev pub is_moved : Option Cursor → ℕ → Bool
@@ -48,19 +41,9 @@ plan_object behind commit direct journeys more moved next =
 
 abbrev pub page_data : Feed → ℕ → Option Cursor → ℕ → Page → Data
 page_data feed commit cursor at_least page =
-    plan_object (nat_lt commit at_least) commit (direct_data page.direct) (journeys_data feed page.found) page.more (is_moved cursor commit) (next_data commit page.found)
-
-abbrev pub plan_data : Feed → Body → Data
-plan_data feed (Plan commit cursor at_least page) = page_data feed commit cursor at_least page
-
--- the bytes of a reply's body
-abbrev pub body_text : Feed → Body → List ℕ
-body_text feed body = compact_text (plan_data feed body)
+    plan_object (nat_lt commit at_least) commit (number_or_null page.direct) (journeys_data feed page.found) page.more (is_moved cursor commit) (next_data commit page.found)
 
 -- a journey whose rides name the feed's, and whose value and number of commits fit the text of a cursor
 pub record IsFoundOf (feed : Feed) (commit : ℕ) (found : Found) : Type 0 where
   pub legs : All (IsLegOf feed) found.journey.legs
   pub fits : FitsText (record { commit = commit; value = found.value })
-
-abbrev pub IsBodyOf : Feed → Body → Type 0
-IsBodyOf feed (Plan commit cursor at_least page) = All (IsFoundOf feed commit) page.found

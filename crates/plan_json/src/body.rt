@@ -3,10 +3,16 @@ ghost use Rattle.std.specs.List.{All};
 ghost use Rattle.otp_model.specs.Laws.{cursor_behind};
 ghost use Rattle.paging.specs.Text.{FitsText};
 ghost use Rattle.serde_json.specs.View.{view};
-ghost use Rattle.plan_json.specs.Plan.{IsBodyOf, IsFoundOf, body_text, cursor_data, direct_data, is_moved, journeys_data, page_data, plan_data, plan_object};
+ghost use Rattle.plan_json.specs.Body.{IsBodyOf, body_data, body_text};
+ghost use Rattle.plan_json.specs.Plan.{IsFoundOf, cursor_data, is_moved, journeys_data, page_data, plan_object};
+ghost use Rattle.plan_json.specs.Replies.{number_or_null};
 
 use crate::journeys::journey_value;
-use otp_base::{List, Memory};
+use crate::replies::{
+    committed_value, kept_value, offset_value, parameter_value, refused_value, status_value,
+    updated_value,
+};
+use otp_base::{List, Memory, Text};
 use otp_model::{Cursor, Feed, Found, Page};
 use paging::cursor_text;
 use serde_json::{Value, json};
@@ -22,6 +28,41 @@ pub enum Body {
         at_least: u64,
         page: Page,
     },
+    /// How many commits there are, beside what the feed holds.
+    Status {
+        number: u64,
+    },
+    /// A message was accepted, the `accepted`th, and was committed where a number of commits stands. So many of
+    /// its updates were ignored for each reason.
+    Updated {
+        accepted: u64,
+        commit: Option<u64>,
+        ignored: [u64; 9],
+    },
+    /// How many commits there are, and whether one was made just now.
+    Committed {
+        number: u64,
+        fresh: bool,
+    },
+    /// A request was refused.
+    Refused {
+        name: Text,
+    },
+    /// A parameter is at fault.
+    Parameter {
+        name: Text,
+        parameter: Text,
+    },
+    /// A message is at fault, at an offset of its bytes if the fault has one.
+    Offset {
+        name: Text,
+        at: Option<u64>,
+    },
+    /// A message was not taken for what is kept: the timestamp of a later one, or the most that may be counted.
+    Kept {
+        name: Text,
+        have: u64,
+    },
 }
 
 /// Whether the cursor names another number of commits.
@@ -35,7 +76,7 @@ fn is_moved(cursor: &Option<Cursor>, number: u64) -> bool
 }
 
 fn direct_value(direct: Option<u32>) -> Value
-    ensures { view result ≡ direct_data direct }
+    ensures { view result ≡ number_or_null direct }
 {
     match direct {
         Some(seconds) => Value::from(seconds),
@@ -113,15 +154,29 @@ fn plan_object(alloc: Global, parts: PlanParts) -> Result<Value, AllocError>
 
 fn body_value(alloc: Global, feed: &Feed, body: &Body) -> Result<Value, Memory>
     requires { IsBodyOf feed.now body.now }
-    ensures { IfOk result (λ value. view value ≡ plan_data feed.now body.now) }
+    ensures { IfOk result (λ value. view value ≡ body_data feed.now body.now) }
 {
-    let Body::Plan {
-        number,
-        cursor,
-        at_least,
-        page,
-    } = body;
-    plan_value(alloc, feed, *number, cursor, *at_least, page)
+    match body {
+        Body::Plan {
+            number,
+            cursor,
+            at_least,
+            page,
+        } => plan_value(alloc, feed, *number, cursor, *at_least, page),
+        Body::Status { number } => Ok(status_value(alloc, feed, *number)?),
+        Body::Updated {
+            accepted,
+            commit,
+            ignored,
+        } => Ok(updated_value(alloc, *accepted, *commit, ignored)?),
+        Body::Committed { number, fresh } => Ok(committed_value(alloc, *number, *fresh)?),
+        Body::Refused { name } => Ok(refused_value(alloc, name.as_str())?),
+        Body::Parameter { name, parameter } => {
+            Ok(parameter_value(alloc, name.as_str(), parameter.as_str())?)
+        }
+        Body::Offset { name, at } => Ok(offset_value(alloc, name.as_str(), *at)?),
+        Body::Kept { name, have } => Ok(kept_value(alloc, name.as_str(), *have)?),
+    }
 }
 
 fn plan_value(
@@ -155,7 +210,7 @@ fn plan_value(
 }
 
 /// The bytes of a reply's body: compact JSON with the keys of each object in the order of their bytes. Each
-/// ride of the page names stops and a trip of the feed and a day of the years 1970 to 2999, and each value of
+/// ride of a plan's page names stops and a trip of the feed and a day of the years 1970 to 2999, and each value of
 /// the page, with the number of commits, fits the text of a cursor.
 pub fn body_bytes(alloc: Global, feed: &Feed, body: &Body) -> Result<List<u8>, Memory>
     requires { IsBodyOf feed.now body.now }

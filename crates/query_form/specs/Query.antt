@@ -33,6 +33,7 @@ name_of parameter.BoardPoints = codes "board_points"
 name_of parameter.Page = codes "page"
 name_of parameter.Cursor = codes "cursor"
 name_of parameter.AtLeast = codes "at_least"
+name_of parameter.Commit = codes "commit"
 
 -- the fault of a parameter
 abbrev pub under : {A : Type 0} → Parameter → Result A QueryFault → Result A Refusal
@@ -100,10 +101,16 @@ query_of query stops scale = request_in (pairs_of query) stops scale
 
 -- a refusal as it is told, by the parameter's name, unless memory ran out
 abbrev pub IsNamed : Refusal → TargetFault → Type 0
+IsNamed refusal target.Path = ⊥
+IsNamed refusal target.FeedNumber = ⊥
+IsNamed refusal target.Method = ⊥
 IsNamed refusal target.Memory = Unit {0}
 IsNamed refusal (target.Query cause name) = (cause ≡ refusal.cause) × (name ≡ name_of refusal.parameter)
 
 abbrev pub IsRefused : Result Request Refusal → TargetFault → Type 0
+IsRefused read target.Path = ⊥
+IsRefused read target.FeedNumber = ⊥
+IsRefused read target.Method = ⊥
 IsRefused read target.Memory = Unit {0}
 IsRefused read (target.Query cause name) = (refusal : Refusal) × (read ≡ Err refusal) × (cause ≡ refusal.cause) × (name ≡ name_of refusal.parameter)
 

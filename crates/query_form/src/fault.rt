@@ -19,7 +19,13 @@ pub enum QueryFault {
 /// Why a target was not read.
 #[derive(Debug, Drop)]
 pub enum TargetFault {
-    /// A parameter is at fault.
+    /// The path names nothing: 404.
+    Path,
+    /// No RT feed has the number: 404.
+    FeedNumber,
+    /// What the path names isn't asked for by this method: 405.
+    Method,
+    /// A parameter is at fault: 404 where it names no stop, 400 otherwise.
     Query { cause: QueryFault, parameter: Text },
     /// Memory ran out.
     Memory,

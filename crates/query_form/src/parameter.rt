@@ -5,7 +5,7 @@ use crate::fault::{QueryFault, TargetFault};
 use otp_base::Text;
 use std::alloc::Global;
 
-/// The parameters of a plan, in the order in which they are looked at.
+/// The parameters of a plan, in the order in which they are looked at, and that of an update.
 #[derive(Clone, Copy, Debug, PartialEq, Eq)]
 pub enum Parameter {
     From,
@@ -19,6 +19,7 @@ pub enum Parameter {
     Page,
     Cursor,
     AtLeast,
+    Commit,
 }
 
 impl Parameter {
@@ -37,6 +38,7 @@ impl Parameter {
             Parameter::Page => "page",
             Parameter::Cursor => "cursor",
             Parameter::AtLeast => "at_least",
+            Parameter::Commit => "commit",
         }
     }
 

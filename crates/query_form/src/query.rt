@@ -74,7 +74,7 @@ fn request(pairs: &[Pair], stops: &[Stop], scale: u32) -> Result<Request, Refusa
 
 /// The number of a parameter, from `low` to `high`, or the default if it may be missing.
 #[tactic(auto, unfolding(crate::specs::Query::number_at))]
-fn number_at(
+pub fn number_at(
     pairs: &[Pair],
     parameter: Parameter,
     low: u64,

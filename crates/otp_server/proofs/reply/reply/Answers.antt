@@ -2,7 +2,7 @@ use Rattle.std.proofs.Common.{◌≡◌, ◌++◌, ℕ, get_or, subst, sym, rule
 use Rattle.std.proofs.lemmas.List.Sorted.{IsPermutation-sym}
 use Rattle.otp_model.proofs.PermutedLemmas.{page_permuted}
 use Rattle.otp_model.specs.Schedule.{sched}
-use Rattle.plan_json.specs.Plan.{body_text}
+use Rattle.plan_json.specs.Body.{body_text}
 use Rattle.plan_json.specs.declared.body.Body.TheVariants.{Plan}
 use Rattle.otp_server.proofs.ValueFacts.{entry_of}
 use Rattle.otp_server.proofs.reply.reply.Goals as goal
