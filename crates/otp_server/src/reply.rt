@@ -19,9 +19,9 @@ use crate::refusal::Refusal;
 use command_words::MessageWord;
 use feed_load::Loaded;
 use otp_base::{Folder, List, Memory};
-use otp_model::{Edges, Feed, Request, Run};
+use otp_model::{Edges, Feed, Request};
 use plan_json::{Body, body_bytes};
-use planner::plan_runs;
+use planner::plan;
 use query_form::read_query;
 use snapshot_store::Snapshot;
 use std::alloc::Global;
@@ -71,9 +71,10 @@ fn answered<F: Folder>(
     ensures later { F.faults folder.old ≤ F.faults folder.new }
 {
     match committed(alloc, folder, &loaded.feed, feeds, messages) {
-        Ok(committed) => Ok(over(
+        Ok(committed) => Ok(reply(
             alloc,
-            loaded,
+            &loaded.feed,
+            &loaded.edges,
             request,
             &committed.snapshot,
             messages.len() as u64,
@@ -83,41 +84,22 @@ fn answered<F: Folder>(
 }
 
 /// The reply to a request over a snapshot after so many commits.
-fn over(
-    alloc: Global,
-    loaded: &Loaded,
-    request: &Request,
-    snapshot: &Snapshot,
-    number: u64,
-) -> Result<List<u8>, Memory>
-    requires searchable { IsSearchable loaded.now.feed loaded.now.edges }
-    requires asked { IsAsked loaded.now.feed.stops request.now }
-    requires served { AreServed loaded.now.feed (runs_of snapshot.now) }
-    requires few { number ≤ most_messages }
-    ensures { IfOk result (λ text. (history : List Commit) → IsPermutation (sched loaded.now.feed history) (runs_of snapshot.now) → length history ≡ number
-        → IsReply loaded.now.feed loaded.now.edges history request.now text) }
-{
-    let runs = snapshot.all_runs(alloc)?;
-    reply(alloc, &loaded.feed, &loaded.edges, request, &runs, number)
-}
-
-/// The reply to a request over the runs of a schedule after so many commits.
 fn reply(
     alloc: Global,
     feed: &Feed,
     edges: &Edges,
     request: &Request,
-    runs: &[Run],
+    snapshot: &Snapshot,
     number: u64,
 ) -> Result<List<u8>, Memory>
     requires searchable { IsSearchable feed.now edges.now }
     requires asked { IsAsked feed.now.stops request.now }
-    requires served { AreServed feed.now runs.now }
+    requires served { AreServed feed.now (runs_of snapshot.now) }
     requires few { number ≤ most_messages }
-    ensures { IfOk result (λ text. (history : List Commit) → IsPermutation (sched feed.now history) runs.now → length history ≡ number
+    ensures { IfOk result (λ text. (history : List Commit) → IsPermutation (sched feed.now history) (runs_of snapshot.now) → length history ≡ number
         → IsReply feed.now edges.now history request.now text) }
 {
-    let page = plan_runs(alloc, runs, edges, request)?;
+    let page = plan(alloc, snapshot, edges, request)?;
     let body = Body::Plan {
         number,
         cursor: request.cursor,

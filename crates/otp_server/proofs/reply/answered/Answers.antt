@@ -10,19 +10,19 @@ use Rattle.otp_server.specs.Messages.{commit_of, history_of}
 use Rattle.otp_server.proofs.TakenFacts.{told_length}
 use Rattle.otp_server.proofs.reply.answered.Goals as goal
 
-pub over-requires-clause-served : goal.over-requires-clause-served
-over-requires-clause-served g c =
+pub reply-requires-clause-served : goal.reply-requires-clause-served
+reply-requires-clause-served g c =
     let feed = c.args.loaded.now.feed in
     let kept = c.in-Ok.ensures.done in
     All-permutation (IsServedRun (length feed.stops) (length feed.trips)) (sched feed (history_of kept.told)) (runs_of c.in-Ok.committed.snapshot) kept.after.stands
     (sched_served feed (history_of kept.told) c.requires.searchable.sound)
 
-pub returns-in_ok-over-in-Ok-clause-done : goal.returns-in_ok-over-in-Ok-clause-done
-returns-in_ok-over-in-Ok-clause-done g c =
+pub returns-in_ok-reply-in-Ok-clause-done : goal.returns-in_ok-reply-in-Ok-clause-done
+returns-in_ok-reply-in-Ok-clause-done g c =
     let kept = c.in-Ok.ensures.done in
     record {
       told = kept.told;
       brought = kept.brought;
-      reply = c.in_ok-over-in-Ok.ensures (history_of kept.told) kept.after.stands
+      reply = c.in_ok-reply-in-Ok.ensures (history_of kept.told) kept.after.stands
           (length-map kept.told commit_of ∙ told_length _ (all_asked c.args.messages.now) kept.told kept.brought ∙ length-map c.args.messages.now asked_by);
     }
