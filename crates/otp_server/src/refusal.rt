@@ -113,10 +113,8 @@ fn request_refusal(alloc: Global, fault: &TargetFault) -> Result<String, Memory>
             parameter.as_str(),
         )?),
         // A query alone has no path, no number of an RT feed and no method.
-        TargetFault::Path
-        | TargetFault::FeedNumber
-        | TargetFault::Method
-        | TargetFault::Memory => Ok(String::new(alloc)),
+        TargetFault::Path | TargetFault::FeedNumber | TargetFault::Method | TargetFault::Memory =>
+            Ok(String::new(alloc)),
     }
 }
 
