@@ -1,0 +1,38 @@
+use otp_base::Memory;
+use otp_model::FeedFault;
+use std::alloc::{AllocError, AllocFailed};
+use std::io;
+use thiserror::Error;
+
+/// Why no measure was taken.
+#[derive(Debug, Drop, Error)]
+pub enum Stop {
+    #[error("the words are none of a plan: plan FOLDER time|counts --zone NAME=RULE --from YYYYMMDD")]
+    Words,
+    #[error("{0}")]
+    Feed(#[from] FeedFault),
+    #[error("{0}")]
+    Output(#[from] io::Error),
+    #[error("a clock could not be read")]
+    Clock,
+    #[error("memory ran out")]
+    Memory,
+}
+
+impl From<Memory> for Stop {
+    fn from(_error: Memory) -> Stop {
+        Stop::Memory
+    }
+}
+
+impl From<AllocError> for Stop {
+    fn from(_error: AllocError) -> Stop {
+        Stop::Memory
+    }
+}
+
+impl<T: Drop> From<AllocFailed<T>> for Stop {
+    fn from(_error: AllocFailed<T>) -> Stop {
+        Stop::Memory
+    }
+}
