@@ -78,7 +78,12 @@ fn reaches(
         return Ok(false);
     }
     let found = reach_of(alloc, edges, place)?;
-    Ok(found.iter().map(|reach| (reach.stop, reach.seconds)).eq(wanted.iter().copied()))
+    Ok(
+        found
+            .iter()
+            .map(|reach| (reach.stop, reach.seconds))
+            .eq(wanted.iter().copied()),
+    )
 }
 
 fn walks(edges: &Edges, from: &Place, to: &Place, wanted: Option<u32>) -> bool {
@@ -133,12 +138,32 @@ struct Case {
 }
 
 const CASES: &[Case] = &[
-    Case { rows: &[], from: 0, edges: &[(0, 0, 0), (1, 419, 0)], passed: 0 },
+    Case {
+        rows: &[],
+        from: 0,
+        edges: &[(0, 0, 0), (1, 419, 0)],
+        passed: 0,
+    },
     // Exactly at the reach; the next stop is one millimetre beyond it.
-    Case { rows: &[], from: 4, edges: &[(3, 752, 0), (4, 0, 0)], passed: 0 },
+    Case {
+        rows: &[],
+        from: 4,
+        edges: &[(3, 752, 0), (4, 0, 0)],
+        passed: 0,
+    },
     // An entrance and a station lead to themselves.
-    Case { rows: &[], from: 6, edges: &[(6, 0, 0)], passed: 0 },
-    Case { rows: &[(0, 1, 2, 600)], from: 0, edges: &[(0, 0, 0), (1, 419, 600)], passed: 0 },
+    Case {
+        rows: &[],
+        from: 6,
+        edges: &[(6, 0, 0)],
+        passed: 0,
+    },
+    Case {
+        rows: &[(0, 1, 2, 600)],
+        from: 0,
+        edges: &[(0, 0, 0), (1, 419, 600)],
+        passed: 0,
+    },
     // The greatest minimum; only type 2 has one.
     Case {
         rows: &[(0, 1, 2, 600), (0, 1, 2, 601), (0, 1, 2, 9), (0, 1, 1, 700)],
@@ -147,9 +172,24 @@ const CASES: &[Case] = &[
         passed: 0,
     },
     // Type 3 wins, in its direction alone.
-    Case { rows: &[(0, 1, 3, 0), (0, 1, 2, 600)], from: 0, edges: &[(0, 0, 0)], passed: 0 },
-    Case { rows: &[(0, 1, 3, 0)], from: 1, edges: &[(0, 419, 0), (1, 0, 0)], passed: 0 },
-    Case { rows: &[(0, 0, 3, 0)], from: 0, edges: &[(1, 419, 0)], passed: 0 },
+    Case {
+        rows: &[(0, 1, 3, 0), (0, 1, 2, 600)],
+        from: 0,
+        edges: &[(0, 0, 0)],
+        passed: 0,
+    },
+    Case {
+        rows: &[(0, 1, 3, 0)],
+        from: 1,
+        edges: &[(0, 419, 0), (1, 0, 0)],
+        passed: 0,
+    },
+    Case {
+        rows: &[(0, 0, 3, 0)],
+        from: 0,
+        edges: &[(1, 419, 0)],
+        passed: 0,
+    },
     // A station stands for both its children.
     Case {
         rows: &[(0, 2, 1, 0)],
@@ -157,13 +197,34 @@ const CASES: &[Case] = &[
         edges: &[(0, 0, 0), (1, 419, 0), (3, 2_256, 0), (4, 3_008, 0)],
         passed: 0,
     },
-    Case { rows: &[(2, 2, 2, 60)], from: 3, edges: &[(3, 0, 60), (4, 752, 60)], passed: 0 },
-    // Of two pairs one is near.
-    Case { rows: &[(8, 2, 0, 0)], from: 8, edges: &[(4, 3_384, 0), (8, 0, 0)], passed: 0 },
-    // Type 3 holds beyond 5,000,000 mm too.
-    Case { rows: &[(0, 5, 3, 0)], from: 5, edges: &[(5, 0, 0)], passed: 0 },
     Case {
-        rows: &[(0, 1, 4, 600), (0, 1, 5, 600), (6, 1, 3, 0), (0, 7, 3, 0), (0, 5, 2, 600)],
+        rows: &[(2, 2, 2, 60)],
+        from: 3,
+        edges: &[(3, 0, 60), (4, 752, 60)],
+        passed: 0,
+    },
+    // Of two pairs one is near.
+    Case {
+        rows: &[(8, 2, 0, 0)],
+        from: 8,
+        edges: &[(4, 3_384, 0), (8, 0, 0)],
+        passed: 0,
+    },
+    // Type 3 holds beyond 5,000,000 mm too.
+    Case {
+        rows: &[(0, 5, 3, 0)],
+        from: 5,
+        edges: &[(5, 0, 0)],
+        passed: 0,
+    },
+    Case {
+        rows: &[
+            (0, 1, 4, 600),
+            (0, 1, 5, 600),
+            (6, 1, 3, 0),
+            (0, 7, 3, 0),
+            (0, 5, 2, 600),
+        ],
         from: 0,
         edges: &[(0, 0, 0), (1, 419, 0)],
         passed: 5,
@@ -189,7 +250,10 @@ fn rows_of(alloc: Global, case: &Case) -> Result<Vec<TransferRow>, Fail> {
 }
 
 fn are_edges(found: &[Edge], wanted: &[(StopNo, u32, u32)]) -> bool {
-    found.iter().map(|edge| (edge.to, edge.walk, edge.minimum)).eq(wanted.iter().copied())
+    found
+        .iter()
+        .map(|edge| (edge.to, edge.walk, edge.minimum))
+        .eq(wanted.iter().copied())
 }
 
 /// Whether the edges are those of the case.
@@ -204,7 +268,12 @@ fn is_right(alloc: Global, stops: &[Stop], case: &Case) -> Result<bool, Fail> {
     }
     let rows = rows_of(alloc, case)?;
     let walks = edges(alloc, stops, &rows, &profile)?;
-    let list = walks.edges.from.as_slice().get(case.from).ok_or("no such stop")?;
+    let list = walks
+        .edges
+        .from
+        .as_slice()
+        .get(case.from)
+        .ok_or("no such stop")?;
     Ok(are_edges(list.as_slice(), case.edges) && walks.passed == case.passed)
 }
 
@@ -213,7 +282,12 @@ fn leads_from_stop_to_stop(rt: HostRuntime) -> Result<(), Fail> {
     let alloc = rt.alloc();
     let stops = stops(alloc)?;
     for case in cases() {
-        assert!(rt; is_right(alloc, stops.as_slice(), case)?, "{:?} from {}", case.rows, case.from);
+        assert!(rt;
+            is_right(alloc, stops.as_slice(), case)?,
+            "{:?} from {}",
+            case.rows,
+            case.from
+        );
     }
     Ok(())
 }
