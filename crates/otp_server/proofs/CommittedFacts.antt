@@ -1,14 +1,14 @@
 -- A message more, committed by itself.
-use Rattle.std.proofs.Common.{◌≡◌, ◌≢◌, ℕ, zero, suc, ◌+◌, ◌-◌, ◌<◌, ◌≤◌, ◌^◌, Bool, true, false, not, nat_le, true≢false, ◌==◌, if◌then◌else◌, List, [], ◌∷◌, ◌++◌, length, map, set, get_or, slice_get, slice_set, replicate, Option, Some, None, Result, Ok, Err, OnOk, ◌⊎◌, inl, inr, refl, sym, ap, subst, ◌∙◌, arith}
+use Rattle.std.proofs.Common.{◌≡◌, ◌≢◌, ℕ, zero, suc, ◌+◌, ◌-◌, ◌<◌, ◌≤◌, ◌^◌, Bool, true, false, not, nat_le, true≢false, ◌==◌, if◌then◌else◌, List, [], ◌∷◌, ◌++◌, length, map, set, get_or, slice_get, slice_set, replicate, Option, Some, None, Result, Ok, Err, OnOk, inl, inr, refl, sym, ap, subst, ◌∙◌, arith}
 use Rattle.std.specs.List.{All, filter, flat_map}
 use Rattle.std.specs.List.Sorted.{IsPermutation}
 use Rattle.std.proofs.lemmas.List.{append-nil, get_or-map, get_or-set_same, get_or-set_other, get_or-replicate, length-append, length-map, length-replicate, length-set, map_push}
 use Rattle.std.proofs.lemmas.List.Elements.{All-map, All-set, All-weaker}
 use Rattle.std.proofs.lemmas.Bool.{eqb-true, leb-true}
 use Rattle.std.proofs.lemmas.Bool.Decides.{eqb_tells}
-use Rattle.std.proofs.lemmas.List.Sorted.{IsPermutation-append, IsPermutation-refl, IsPermutation-trans}
+use Rattle.std.proofs.lemmas.List.Sorted.{IsPermutation-append, IsPermutation-refl}
 use Rattle.std.proofs.lemmas.Option.{slice_get-get_or}
-use Rattle.change_buffer.specs.Commits.{IsCommitted, numbered, pending_from, pending_of}
+use Rattle.change_buffer.specs.Commits.{IsCommitted, pending_from, pending_of}
 use Rattle.change_buffer.specs.Offers.{above_of, answer_to, counted, fresh, settled, with_message}
 use Rattle.change_buffer.specs.declared.feed_state.FeedState.{FeedState}
 use Rattle.change_buffer.specs.declared.offer_fault.OfferFault.{OfferFault}
@@ -23,7 +23,7 @@ use Rattle.otp_model.specs.declared.timetable.Feed.{Feed}
 use Rattle.otp_model.specs.declared.timetable.Run.{Run}
 use Rattle.snapshot_store.proofs.OrderLemmas.{flat_permutation}
 use Rattle.snapshot_store.specs.Snapshots.{runs_of}
-use Rattle.otp_server.specs.Messages.{IsAfter, IsAfterSome, IsSettled, Told, commit_of, history_of, timestamp_after, timestamp_from, timestamp_of}
+use Rattle.otp_server.specs.Messages.{IsAfter, IsSettled, Told, commit_of, history_of, timestamp_after, timestamp_from, timestamp_of}
 use Rattle.otp_server.specs.declared.committed.Committed.{Committed}
 
 -- ---- schedules in any order

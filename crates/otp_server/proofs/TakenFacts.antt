@@ -1,6 +1,6 @@
 -- The messages that words bring, one word more.
-use Rattle.std.proofs.Common.{◌≡◌, ℕ, suc, ◌+◌, ◌<◌, ◌≤◌, List, [], ◌∷◌, ◌++◌, length, map, take, drop, get_or, Option, refl, sym, ap, subst, ◌∙◌, arith}
-use Rattle.std.proofs.lemmas.List.{append_assoc, drop_more, length-append, length-map, length-take, map-append, map_more, take-append-drop}
+use Rattle.std.proofs.Common.{◌≡◌, ℕ, ◌+◌, ◌<◌, ◌≤◌, List, [], ◌∷◌, ◌++◌, length, take, drop, get_or, Option, sym, ap, subst, ◌∙◌, arith}
+use Rattle.std.proofs.lemmas.List.{drop_more, length-append, length-map, length-take, map-append, map_more, take-append-drop}
 use Rattle.std.specs.List.{All}
 use Rattle.command_words.specs.Messages.{AskedMessage, IsOf, all_asked, asked_by}
 use Rattle.command_words.specs.declared.messages.MessageWord.{MessageWord}

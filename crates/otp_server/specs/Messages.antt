@@ -19,7 +19,6 @@ use Rattle.otp_model.specs.declared.message.Message.{Message}
 use Rattle.otp_model.specs.declared.timetable.Feed.{Feed}
 use Rattle.rt_reader.specs.Tables.{first_fault}
 use Rattle.rt_reader.specs.Spelling.{SpellsMessage}
-use Rattle.rt_reader.specs.declared.fault.MessageFault.{MessageFault}
 use Rattle.snapshot_store.specs.Snapshots.{runs_of}
 use Rattle.otp_server.specs.declared.committed.Committed.{Committed}
 use Rattle.otp_server.specs.declared.refusal.Untaken.{Untaken}
