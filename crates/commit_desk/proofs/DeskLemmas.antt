@@ -1,5 +1,5 @@
 -- What a commit makes of a desk.
-use Rattle.std.proofs.Common.{◌≡◌, ◌≢◌, ℕ, ◌+◌, ◌<◌, ◌≤◌, ◌^◌, false, List, [], ◌∷◌, ◌++◌, length, map, sym, ap, subst, ◌∙◌}
+use Rattle.std.proofs.Common.{◌≡◌, ◌≢◌, ℕ, ◌+◌, ◌<◌, ◌≤◌, ◌^◌, true, false, List, [], ◌∷◌, ◌++◌, length, map, sym, ap, subst, ◌∙◌}
 use Rattle.std.specs.List.{list_any}
 use Rattle.std.specs.List.Sorted.{IsPermutation}
 use Rattle.std.proofs.lemmas.List.Sorted.{IsPermutation-trans}
@@ -18,10 +18,11 @@ use Rattle.snapshot_store.specs.declared.snapshot.Snapshot.{Snapshot}
 use Rattle.commit_history.specs.Entries.{IsSnapshotOf}
 use Rattle.commit_history.specs.Views.{WriterView}
 use Rattle.commit_desk.specs.Costs.{IsCostWithin}
-use Rattle.commit_desk.specs.Desks.{DeskView, IsDesk, desk_of, slot_of, state_of}
+use Rattle.commit_desk.specs.Desks.{DeskView, IsCounted, IsDesk, desk_of, slot_of, state_of}
 use Rattle.commit_desk.specs.Dones.{IsDone}
 use Rattle.commit_desk.specs.declared.done.Done.TheVariants.{Committed, Nothing}
 use Rattle.commit_desk.proofs.CostLemmas.{cost_within}
+use Rattle.commit_desk.proofs.CountLemmas.{counted_commit}
 use Rattle.commit_desk.proofs.ScheduleLemmas.{changed_permuted}
 use Rattle.commit_desk.proofs.SlotLemmas.{none_pending, nothing_commits, pending_is, settled_is}
 
@@ -101,11 +102,13 @@ done_committed before now states later commit number note some room messages pub
 pub still_desk : (feed : Feed) (before now : WriterView) (states later : List FeedState) (newest next : Snapshot) (commit : Commit) → IsDesk feed before states newest
     → now ≡ with_commit before commit → commit.messages ≡ pending_in (map slot_of states)
     → ((history : History) (c : Commit) → c.messages ≡ pending_of states → IsCommitted states history → IsCommitted later (history ++ c ∷ []))
-    → IsSnapshotOf next before.feed (before.history ++ commit ∷ []) → IsDesk feed now later next
-still_desk feed before now states later newest next commit desk published messages committed stands =
+    → IsSnapshotOf next before.feed (before.history ++ commit ∷ []) → later ≡ map settled states → list_any is_pending states ≡ true → length before.history < 2 ^ 40
+    → IsDesk feed now later next
+still_desk feed before now states later newest next commit desk published messages committed stands kept some room =
     subst (λ (w : WriterView). IsDesk feed w later next) (sym published) (record {
       sound = desk.sound;
       feed_is = desk.feed_is;
       committed = committed before.history commit (messages ∙ sym (pending_is states)) desk.committed;
       stands = subst (λ (f : Feed). IsSnapshotOf next f (before.history ++ commit ∷ [])) (sym desk.feed_is) stands;
+      counted = subst (λ (ls : List FeedState). IsCounted ls (before.history ++ commit ∷ [])) (sym kept) (counted_commit states before.history commit some room desk.counted);
     })

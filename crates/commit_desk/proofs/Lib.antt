@@ -3,3 +3,4 @@ pub mod ScheduleLemmas
 mod CostLemmas
 mod DeskLemmas
 mod MeetingLemmas
+pub mod CountLemmas

@@ -114,7 +114,7 @@ slot_there [] place state found = absurd (let never : ◌≡◌ {A = Option Feed
 slot_there (first ∷ states) zero state found = let here : ◌≡◌ {A = Option FeedState} (Some first) (Some state) = found in let same : first ≡ state = cc in ap (λ s. Some (slot_of s)) same
 slot_there (first ∷ states) (suc place) state found = slot_there states place state found
 
-there_is : (states : List FeedState) (place : ℕ) → place < length states → (state : FeedState) × (slice_get states place ≡ Some state)
+pub there_is : (states : List FeedState) (place : ℕ) → place < length states → (state : FeedState) × (slice_get states place ≡ Some state)
 there_is [] place less = absurd (omega (arith, less))
 there_is (state ∷ states) zero less = (state, refl)
 there_is (state ∷ states) (suc place) less = there_is states place (omega (arith, less))

@@ -1,8 +1,10 @@
 -- What contracts see of a desk, and what its calls do.
-use Rattle.std.specs.Prelude.{◌≡◌, ℕ, List, map, Result, Ok, Err}
+use Rattle.std.specs.Prelude.{◌≡◌, ℕ, ◌+◌, ◌^◌, ◌≤◌, List, [], ◌∷◌, length, map, Result, Ok, Err, if◌then◌else◌}
+use Rattle.std.specs.List.{All, list_any}
 use mathlib.Core.List.{IsPrefix}
 use Rattle.logbook.specs.Pages.{Book}
 use Rattle.change_buffer.specs.Commits.{IsCommitted}
+use Rattle.change_buffer.specs.Offers.{is_pending}
 use Rattle.change_buffer.specs.declared.feed_state.FeedState.{FeedState}
 use Rattle.change_buffer.specs.declared.offer_fault.OfferFault.{OfferFault}
 use Rattle.change_buffer.specs.declared.offer_fault.OfferFault.TheVariants as fault
@@ -35,12 +37,30 @@ state_of states history = record { history = history; slots = map slot_of states
 abbrev pub desk_of : WriterView → List FeedState → DeskView
 desk_of published states = record { feed = published.feed; cell = published.cell; state = state_of states published.history }
 
--- the feed is sound and the writer's, the buffer has committed the history, and the newest snapshot is the one after it
+-- 1 where something is pending
+abbrev pub pending_one : List FeedState → ℕ
+pending_one states = if list_any is_pending states then 1 else 0
+
+-- how many messages all feeds together have accepted
+unfoldable pub accepted_in : List FeedState → ℕ
+accepted_in [] = 0
+accepted_in (state ∷ states) = state.accepted + accepted_in states
+
+-- no feed has accepted more than 2^40 messages, no more than 2^40 commits are published, and each commit, with the one to come, took a
+-- message
+pub record IsCounted (states : List FeedState) (history : History) : Type 0 where
+  pub counts : All (λ (state : FeedState). state.accepted ≤ 2 ^ 40) states
+  pub few : length history ≤ 2 ^ 40
+  pub enough : length history + pending_one states ≤ accepted_in states
+
+-- the feed is sound and the writer's, the buffer has committed the history, the newest snapshot is the one after it, and
+-- the counts are within their bounds
 pub record IsDesk (feed : Feed) (published : WriterView) (states : List FeedState) (newest : Snapshot) : Type 0 where
   pub sound : IsSound feed
   pub feed_is : feed ≡ published.feed
   pub committed : IsCommitted states published.history
   pub stands : IsSnapshotOf newest feed published.history
+  pub counted : IsCounted states published.history
 
 -- an offer's answer
 abbrev pub answer_of : Acceptance → Result ℕ OfferFault

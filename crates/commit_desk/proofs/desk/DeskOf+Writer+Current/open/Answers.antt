@@ -6,7 +6,8 @@ use Rattle.change_buffer.specs.Commits.{IsCommitted}
 use Rattle.change_buffer.specs.declared.feed_state.FeedState.{FeedState}
 use Rattle.snapshot_store.specs.declared.snapshot.Snapshot.{Snapshot}
 use Rattle.commit_history.specs.Entries.{IsSnapshotOf}
-use Rattle.commit_desk.specs.Desks.{state_of}
+use Rattle.commit_desk.specs.Desks.{IsCounted, state_of}
+use Rattle.commit_desk.proofs.CountLemmas.{counted_fresh}
 use Rattle.commit_desk.proofs.ScheduleLemmas.{base_stands}
 use Rattle.commit_desk.proofs.SlotLemmas.{fresh_is}
 use Rattle.commit_desk.proofs.desk.DeskOf+Writer+Current.open.Goals as goal
@@ -30,6 +31,8 @@ invariant_of-desk g c =
       feed_is = sym (opened.0 ∙ c.deref-2.ensures);
       committed = subst (λ (h : History). IsCommitted c.in_ok-buffer.buffer h) (sym opened.1) c.in_ok-buffer.ensures.committed;
       stands = subst (λ (h : History). IsSnapshotOf (arc_value c.in_ok-newest.newest) (arc_value c.args.feed) h) (sym opened.1) stands;
+      counted = subst (λ (h : History). IsCounted c.in_ok-buffer.buffer h) (sym opened.1)
+          (subst (λ (states : List FeedState). IsCounted states []) (sym c.in_ok-buffer.ensures.fresh) (counted_fresh c.args.feeds));
     }
 
 pub returns-clause-desk : goal.returns-clause-desk
