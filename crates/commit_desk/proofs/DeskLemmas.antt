@@ -13,6 +13,7 @@ use Rattle.otp_model.specs.declared.timetable.Feed.{Feed}
 use Rattle.change_buffer.specs.Commits.{IsCommitted, pending_of}
 use Rattle.change_buffer.specs.Offers.{is_pending, settled}
 use Rattle.change_buffer.specs.declared.feed_state.FeedState.{FeedState}
+use Rattle.rt_resolve.specs.declared.lookup.FeedIndex.{FeedIndex}
 use Rattle.snapshot_store.specs.Snapshots.{runs_of}
 use Rattle.snapshot_store.specs.declared.snapshot.Snapshot.{Snapshot}
 use Rattle.commit_history.specs.Entries.{IsSnapshotOf}
@@ -32,8 +33,8 @@ pub record IsPrepared (feed : Feed) (states : List FeedState) (commit : Commit) 
   pub differ : (history : History) → IsCommitted states history → AreDifferences (sched feed history) (sched feed (history ++ commit ∷ [])) changes
   pub schedule : (history : History) → IsCommitted states history → IsPermutation (sched feed (history ++ commit ∷ [])) (with_changes (sched feed history) changes)
 
-module _ (feed : Feed) (published : WriterView) (states : List FeedState) (newest : Snapshot) (commit : Commit) (changes : List Change)
-    (desk : IsDesk feed published states newest) (prepared : IsPrepared feed states commit changes) where
+module _ (feed : Feed) (published : WriterView) (states : List FeedState) (index : FeedIndex) (newest : Snapshot) (commit : Commit) (changes : List Change)
+    (desk : IsDesk feed published states index newest) (prepared : IsPrepared feed states commit changes) where
   next_messages : commit.messages ≡ pending_in (map slot_of states)
   next_messages = prepared.messages ∙ pending_is states
 
@@ -54,27 +55,27 @@ module _ (feed : Feed) (published : WriterView) (states : List FeedState) (newes
       (subst (λ (f : Feed). IsCostWithin (sched f published.history) (sched f (published.history ++ commit ∷ [])) old new) desk.feed_is own)
 
 -- the same of what stands for the parts of a desk
-pub most_of : (desk : DeskView) (feed given : Feed) (published : WriterView) (states : List FeedState) (newest shared : Snapshot) (commit : Commit) (changes listed : List Change) (old new : ℕ)
-    → IsDesk feed published states newest → desk_of published states ≡ desk → IsPrepared given states commit changes → given ≡ feed → shared ≡ newest → listed ≡ changes
+pub most_of : (desk : DeskView) (feed given : Feed) (published : WriterView) (states : List FeedState) (index : FeedIndex) (newest shared : Snapshot) (commit : Commit) (changes listed : List Change) (old new : ℕ)
+    → IsDesk feed published states index newest → desk_of published states ≡ desk → IsPrepared given states commit changes → given ≡ feed → shared ≡ newest → listed ≡ changes
     → pending_in desk.state.slots ≢ [] → length desk.state.history < 2 ^ 40 → new ≤ old + touched (runs_of shared) (with_changes (runs_of shared) listed) listed
     → IsCostWithin (sched desk.feed desk.state.history) (sched desk.feed (commits desk.state).history) old new
-most_of desk feed given published states newest shared commit changes listed old new is view_is prepared feed_is newest_is changes_are some room most =
+most_of desk feed given published states index newest shared commit changes listed old new is view_is prepared feed_is newest_is changes_are some room most =
     let own = subst (λ (f : Feed). IsPrepared f states commit changes) feed_is prepared in
     let few = subst (λ (s : Snapshot). new ≤ old + touched (runs_of s) (with_changes (runs_of s) changes) changes) newest_is
     (subst (λ (cs : List Change). new ≤ old + touched (runs_of shared) (with_changes (runs_of shared) cs) cs) changes_are most) in
     let some_own = subst (λ (d : DeskView). pending_in d.state.slots ≢ []) (sym view_is) some in
     let room_own = subst (λ (d : DeskView). length d.state.history < 2 ^ 40) (sym view_is) room in
     subst (λ (d : DeskView). IsCostWithin (sched d.feed d.state.history) (sched d.feed (commits d.state).history) old new) view_is
-    (next_most feed published states newest commit changes is own some_own room_own old new few)
+    (next_most feed published states index newest commit changes is own some_own room_own old new few)
 
-pub stands_of : (desk : DeskView) (feed given : Feed) (published : WriterView) (states : List FeedState) (newest shared next : Snapshot) (commit : Commit) (changes listed : List Change)
-    → IsDesk feed published states newest → desk_of published states ≡ desk → IsPrepared given states commit changes → given ≡ feed → shared ≡ newest → listed ≡ changes
+pub stands_of : (desk : DeskView) (feed given : Feed) (published : WriterView) (states : List FeedState) (index : FeedIndex) (newest shared next : Snapshot) (commit : Commit) (changes listed : List Change)
+    → IsDesk feed published states index newest → desk_of published states ≡ desk → IsPrepared given states commit changes → given ≡ feed → shared ≡ newest → listed ≡ changes
     → IsPermutation (with_changes (runs_of shared) listed) (runs_of next) → IsSnapshotOf next desk.feed (desk.state.history ++ commit ∷ [])
-stands_of desk feed given published states newest shared next commit changes listed is view_is prepared feed_is newest_is changes_are changed =
+stands_of desk feed given published states index newest shared next commit changes listed is view_is prepared feed_is newest_is changes_are changed =
     let own = subst (λ (f : Feed). IsPrepared f states commit changes) feed_is prepared in
     let moved = subst (λ (s : Snapshot). IsPermutation (with_changes (runs_of s) changes) (runs_of next)) newest_is
     (subst (λ (cs : List Change). IsPermutation (with_changes (runs_of shared) cs) (runs_of next)) changes_are changed) in
-    subst (λ (d : DeskView). IsSnapshotOf next d.feed (d.state.history ++ commit ∷ [])) view_is (next_stands feed published states newest commit changes is own next moved)
+    subst (λ (d : DeskView). IsSnapshotOf next d.feed (d.state.history ++ commit ∷ [])) view_is (next_stands feed published states index newest commit changes is own next moved)
 
 -- what is left where nothing was pending
 pub done_nothing : (before now : WriterView) (states : List FeedState) (number : ℕ) (note : WriterView) → list_any is_pending states ≡ false → now ≡ before
@@ -99,14 +100,15 @@ done_committed before now states later commit number note some room messages pub
     ((λ i. record { feed = (published i).feed; cell = (published i).cell; state = state i }), (some, (number_is, note_is)))
 
 -- it is a desk as before
-pub still_desk : (feed : Feed) (before now : WriterView) (states later : List FeedState) (newest next : Snapshot) (commit : Commit) → IsDesk feed before states newest
+pub still_desk : (feed : Feed) (before now : WriterView) (states later : List FeedState) (index : FeedIndex) (newest next : Snapshot) (commit : Commit) → IsDesk feed before states index newest
     → now ≡ with_commit before commit → commit.messages ≡ pending_in (map slot_of states)
     → ((history : History) (c : Commit) → c.messages ≡ pending_of states → IsCommitted states history → IsCommitted later (history ++ c ∷ []))
     → IsSnapshotOf next before.feed (before.history ++ commit ∷ []) → later ≡ map settled states → list_any is_pending states ≡ true → length before.history < 2 ^ 40
-    → IsDesk feed now later next
-still_desk feed before now states later newest next commit desk published messages committed stands kept some room =
-    subst (λ (w : WriterView). IsDesk feed w later next) (sym published) (record {
+    → IsDesk feed now later index next
+still_desk feed before now states later index newest next commit desk published messages committed stands kept some room =
+    subst (λ (w : WriterView). IsDesk feed w later index next) (sym published) (record {
       sound = desk.sound;
+      indexed = desk.indexed;
       feed_is = desk.feed_is;
       committed = committed before.history commit (messages ∙ sym (pending_is states)) desk.committed;
       stands = subst (λ (f : Feed). IsSnapshotOf next f (before.history ++ commit ∷ [])) (sym desk.feed_is) stands;

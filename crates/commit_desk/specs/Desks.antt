@@ -12,6 +12,8 @@ use Rattle.otp_model.specs.Core.{History}
 use Rattle.otp_model.specs.Desk.{Acceptance, Accepted, DeskState, Older, Slot, Spent}
 use Rattle.otp_model.specs.Sound.{IsSound}
 use Rattle.otp_model.specs.declared.timetable.Feed.{Feed}
+use Rattle.rt_resolve.specs.Indices.{IsIndexOf}
+use Rattle.rt_resolve.specs.declared.lookup.FeedIndex.{FeedIndex}
 use Rattle.snapshot_store.specs.declared.snapshot.Snapshot.{Snapshot}
 use Rattle.commit_history.specs.Entries.{IsSnapshotOf}
 use Rattle.commit_history.specs.Views.{EnteredAt, PassView, WriterView}
@@ -53,10 +55,11 @@ pub record IsCounted (states : List FeedState) (history : History) : Type 0 wher
   pub few : length history ≤ 2 ^ 40
   pub enough : length history + pending_one states ≤ accepted_in states
 
--- the feed is sound and the writer's, the buffer has committed the history, the newest snapshot is the one after it, and
+-- the feed is sound, has this index and is the writer's, the buffer has committed the history, the newest snapshot is the one after it, and
 -- the counts are within their bounds
-pub record IsDesk (feed : Feed) (published : WriterView) (states : List FeedState) (newest : Snapshot) : Type 0 where
+pub record IsDesk (feed : Feed) (published : WriterView) (states : List FeedState) (index : FeedIndex) (newest : Snapshot) : Type 0 where
   pub sound : IsSound feed
+  pub indexed : IsIndexOf feed index
   pub feed_is : feed ≡ published.feed
   pub committed : IsCommitted states published.history
   pub stands : IsSnapshotOf newest feed published.history

@@ -15,17 +15,19 @@ use change_buffer::{Buffer, OfferFault, Prepared};
 use commit_history::{Note, Pass, Writer};
 use otp_base::{Memory, Steps};
 use otp_model::{Commit, Feed, Message};
+use rt_resolve::{FeedIndex, Lookup};
 use snapshot_store::Snapshot;
 use std::alloc::Global;
 use std::marker::Model;
 use std::sync::ledger::Ledger;
 use std::sync::{Arc, Wait};
 
-/// What a desk keeps beside its writer: the messages, the feed, and the snapshot after what is published.
+/// What a desk keeps beside its writer: the messages, the feed with the index of its ids, and the snapshot after what is published.
 #[derive(Drop)]
 pub struct Current {
     pub buffer: Buffer,
     pub feed: Arc<Feed>,
+    pub index: FeedIndex,
     pub newest: Arc<Snapshot>,
 }
 
@@ -66,7 +68,7 @@ impl<W: Publishing, C: Keeping> Model for DeskOf<W, C> {
 
     ghost view = { λ desk. desk_of (W.published desk.writer) (C.kept desk.current).buffer };
 
-    ghost invariant = { λ desk. IsDesk (arc_value (C.kept desk.current).feed) (W.published desk.writer) (C.kept desk.current).buffer (arc_value (C.kept desk.current).newest) };
+    ghost invariant = { λ desk. IsDesk (arc_value (C.kept desk.current).feed) (W.published desk.writer) (C.kept desk.current).buffer (C.kept desk.current).index (arc_value (C.kept desk.current).newest) };
 }
 
 /// The writer of a history beside what is pending and the newest snapshot. It is to be ended by `end`.
@@ -95,12 +97,14 @@ impl DeskOf<Writer, Current> {
         ensures passes { IfOk result (λ opened. (length opened.1.items ≡ readers) × All (λ pass. pass ≡ fresh_pass (writer_of opened.0)) opened.1.items) }
     {
         let buffer = Buffer::new(alloc, feeds)?;
+        let index = FeedIndex::of(alloc, &feed)?;
         let newest = Arc::new(alloc, Snapshot::build(alloc, &feed)?)?;
         let shown = Arc::try_clone(&newest)?;
         let (writer, passes) = commit_history::open(rt, alloc, &feed, shown, readers)?;
         let current = Current {
             buffer,
             feed,
+            index,
             newest,
         };
         let desk = DeskOf { writer, current };
@@ -165,7 +169,8 @@ impl DeskOf<Writer, Current> {
         ensures stands { IfOk result (λ next. IsSnapshotOf (arc_value next.snapshot) self.now.feed (self.now.state.history ++ next.commit ∷ [])) }
         ensures most { IsCostWithin (sched self.now.feed self.now.state.history) (sched self.now.feed (commits self.now.state).history) steps.old steps.new }
     {
-        let Prepared { commit, changes } = self.current.buffer.prepare(alloc, &self.current.feed)?;
+        let lookup = Lookup::of(&self.current.feed, &self.current.index);
+        let Prepared { commit, changes } = self.current.buffer.prepare_with(alloc, &lookup)?;
         let snapshot = self
             .current
             .newest

@@ -30,6 +30,7 @@ invariant_of-self c =
     let is = c.self.invariant in
     record {
       sound = is.sound;
+      indexed = is.indexed;
       feed_is = is.feed_is;
       committed = c.offer.ensures.committed own.writer.history is.committed;
       stands = is.stands;
