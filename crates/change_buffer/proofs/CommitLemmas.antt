@@ -7,6 +7,7 @@ use Rattle.std.proofs.lemmas.List.{length-map, length-set}
 use Rattle.std.proofs.lemmas.Option.{slice_get-map, slice_get_read}
 use Rattle.otp_model.specs.Moves.{first_of}
 use Rattle.otp_model.specs.Schedule.{latest, latest_or, message_in, most_feed, most_in}
+use Rattle.otp_model.specs.declared.change.Change.{Change}
 use Rattle.otp_model.specs.declared.message.Commit.{Commit}
 use Rattle.otp_model.specs.declared.message.Message.{Message}
 use Rattle.change_buffer.specs.Commits.{IsCommitted, committed_of, numbered, pending_from, pending_of}
@@ -125,11 +126,11 @@ committed_replaced states place state changed history h same committed = record 
     at (suc other) = replaced_at states place other state changed h same
 
 -- an offer leaves the committed message, whatever it answers
-pub committed_offered : {E : Type 0} (states : List FeedState) (place : ℕ) (state changed : FeedState) (message : Message) (answer : Result ℕ E) → place < length states → state ≡ get_or states place state
-    → OnOk answer (changed ≡ with_message state message) → OnErr answer (changed ≡ state) → (history : List Commit) → IsCommitted states history → IsCommitted (set states place changed) history
-committed_offered states place state changed message answer less read ok err history committed =
+pub committed_offered : {E : Type 0} (states : List FeedState) (place : ℕ) (state changed : FeedState) (message : Message) (changes : List Change) (answer : Result ℕ E) → place < length states → state ≡ get_or states place state
+    → OnOk answer (changed ≡ with_message state message changes) → OnErr answer (changed ≡ state) → (history : List Commit) → IsCommitted states history → IsCommitted (set states place changed) history
+committed_offered states place state changed message changes answer less read ok err history committed =
     committed_replaced states place state changed history (slice_get_read states (length states) place state refl less read) (same answer ok err) committed
   where
-    same : {E : Type 0} (r : Result ℕ E) → OnOk r (changed ≡ with_message state message) → OnErr r (changed ≡ state) → changed.committed ≡ state.committed
+    same : {E : Type 0} (r : Result ℕ E) → OnOk r (changed ≡ with_message state message changes) → OnErr r (changed ≡ state) → changed.committed ≡ state.committed
     same (Ok n) is other = ap (λ (s : FeedState). s.committed) is
     same (Err e) other is = ap (λ (s : FeedState). s.committed) is

@@ -23,7 +23,6 @@ use Rattle.otp_model.specs.declared.timetable.Run.{Run}
 use Rattle.otp_model.proofs.RisingLemmas.{AreAbove, IsIn, Rises, rises}
 use Rattle.change_buffer.specs.Commits.{IsCommitted, pending_of}
 use Rattle.change_buffer.specs.Forms.{AreNamesChanged, AreResolved, are_same_calls, calls_before, calls_now, difference, differences, in_force, is_same_call, names_changed}
-use Rattle.change_buffer.specs.declared.feed_changes.FeedChanges.{FeedChanges}
 use Rattle.change_buffer.specs.declared.feed_state.FeedState.{FeedState}
 use Rattle.change_buffer.proofs.CommitLemmas.{committed_after}
 use Rattle.change_buffer.proofs.FormLemmas.{calls_committed, calls_settled, form_kept}
@@ -134,31 +133,31 @@ own_names : (names : List RunName) → map own names ≡ names
 own_names [] = refl
 own_names (name ∷ names) = ap (λ (ns : List RunName). name ∷ ns) (own_names names)
 
-module _ (feed : Feed) (states : List FeedState) (feeds : List FeedChanges) (names : List RunName) (commit : Commit) (history : List Commit)
-    (sound : IsSound feed) (are : AreResolved feed states feeds) (all : AreNamesChanged feeds names) (published : commit.messages ≡ pending_of states) (committed : IsCommitted states history) where
+module _ (feed : Feed) (states : List FeedState) (names : List RunName) (commit : Commit) (history : List Commit)
+    (sound : IsSound feed) (are : AreResolved feed states) (all : AreNamesChanged states names) (published : commit.messages ≡ pending_of states) (committed : IsCommitted states history) where
   abbrev after : List Commit
   after = history ++ commit ∷ []
 
-  before_is : calls_in (sched feed history) ≡ calls_before feed feeds
-  before_is = λ i name. calls_committed feed states feeds history sound are committed name i
+  before_is : calls_in (sched feed history) ≡ calls_before feed states
+  before_is = λ i name. calls_committed feed states history sound are committed name i
 
-  now_is : calls_in (sched feed after) ≡ calls_now feed feeds
-  now_is = λ i name. calls_settled feed states feeds after sound are (committed_after states history commit published committed) name i
+  now_is : calls_in (sched feed after) ≡ calls_now feed states
+  now_is = λ i name. calls_settled feed states after sound are (committed_after states history commit published committed) name i
 
   rising : Rises run_name_cmp names
   rising = subst (Rises run_name_cmp) (own_names names) (rises run_name_cmp own names all.rise)
 
-  whole : (name : RunName) → calls_before feed feeds name ≢ calls_now feed feeds name → has_name change_name name (differences feed feeds names) ≡ true
+  whole : (name : RunName) → calls_before feed states name ≢ calls_now feed states name → has_name change_name name (differences feed states names) ≡ true
   whole name differs =
       by_test (has_name own name names)
       (λ e.
       let found = some_named own name names e in
-      whole_sifted (calls_before feed feeds) (calls_now feed feeds) name names (subst (IsIn name) (own_names names) (in_named own name names found.0 found.1)) differs)
-      (λ e. absurd (differs (ap (λ o. in_force o (calls_in feed.runs name)) (form_kept feeds name (λ i. out e i)))))
+      whole_sifted (calls_before feed states) (calls_now feed states) name names (subst (IsIn name) (own_names names) (in_named own name names found.0 found.1)) differs)
+      (λ e. absurd (differs (ap (λ o. in_force o (calls_in feed.runs name)) (form_kept states name (λ i. out e i)))))
     where
-      out : has_name own name names ≡ false → IsIn name (names_changed feeds) → ⊥
+      out : has_name own name names ≡ false → IsIn name (names_changed states) → ⊥
       out e i =
-          let place = place_from_in name (names_changed feeds) i in
+          let place = place_from_in name (names_changed states) i in
           let inside : Contains names name = subst (Contains names) place.2 (all.whole place.0 name place.1) in
           lacks names (in_from_place name names inside.0 inside.1 inside.2) e
         where
@@ -169,11 +168,11 @@ module _ (feed : Feed) (states : List FeedState) (feeds : List FeedChanges) (nam
               by_test (is_same_name n name) (λ t. let never : true ≡ false = rw t at h in cc) (λ t. lacks ns j (rw t at h))
 
   -- the changes that a commit of the pending messages makes
-  pub commit_differences : AreDifferences (sched feed history) (sched feed after) (differences feed feeds names)
+  pub commit_differences : AreDifferences (sched feed history) (sched feed after) (differences feed states names)
   commit_differences = record {
-    rise = pairs_from_rises change_name (differences feed feeds names) (rises_sifted (calls_before feed feeds) (calls_now feed feeds) names rising);
-    calls = each_sifted (calls_before feed feeds) (calls_now feed feeds) (λ (change : Change). calls_in (sched feed after) change.name ≡ change.calls) (λ name differs. λ i. now_is i name) names;
-    only = each_sifted (calls_before feed feeds) (calls_now feed feeds) (λ (change : Change). calls_in (sched feed history) change.name ≢ change.calls)
+    rise = pairs_from_rises change_name (differences feed states names) (rises_sifted (calls_before feed states) (calls_now feed states) names rising);
+    calls = each_sifted (calls_before feed states) (calls_now feed states) (λ (change : Change). calls_in (sched feed after) change.name ≡ change.calls) (λ name differs. λ i. now_is i name) names;
+    only = each_sifted (calls_before feed states) (calls_now feed states) (λ (change : Change). calls_in (sched feed history) change.name ≢ change.calls)
         (λ name differs e. differs (sym (λ i. before_is i name) ∙ e)) names;
     whole = λ name differs. whole name (λ e. differs ((λ i. before_is i name) ∙ e ∙ sym (λ i. now_is i name)));
   }

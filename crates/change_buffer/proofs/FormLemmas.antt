@@ -2,6 +2,7 @@
 use Rattle.std.proofs.Common.{◌≡◌, ℕ, ◌+◌, ◌-◌, suc, zero, List, [], ◌∷◌, ◌++◌, map, length, Option, Some, None, unwrap_or, refl, sym, ◌∙◌, ap, arith}
 use Rattle.std.specs.List.{slice_get}
 use Rattle.std.specs.Option.{option_map, option_map_or}
+use Rattle.std.proofs.lemmas.List.Elements.{All-head, All-tail}
 use Rattle.otp_model.specs.Moves.{first_of}
 use Rattle.otp_model.specs.Names.{run_name_cmp}
 use Rattle.otp_model.specs.Resolution.{changes_of, form}
@@ -15,9 +16,8 @@ use Rattle.otp_model.specs.declared.timetable.Call.{Call}
 use Rattle.otp_model.specs.declared.timetable.Feed.{Feed}
 use Rattle.otp_model.proofs.RisingLemmas.{IsIn, rises}
 use Rattle.change_buffer.specs.Commits.{IsCommitted, committed_of}
-use Rattle.change_buffer.specs.Forms.{AreResolved, AreSaid, ArePending, calls_before, calls_now, form_before, form_in, form_now, in_force, last_given, names_changed, names_pending}
+use Rattle.change_buffer.specs.Forms.{AreResolved, AreSaid, ArePending, IsResolved, calls_before, calls_now, form_before, form_in, form_now, in_force, last_given, names_changed, names_pending}
 use Rattle.change_buffer.specs.Offers.{settled}
-use Rattle.change_buffer.specs.declared.feed_changes.FeedChanges.{FeedChanges}
 use Rattle.change_buffer.specs.declared.feed_state.FeedState.{FeedState}
 use Rattle.change_buffer.proofs.HistoryLemmas.{form_above}
 use Rattle.change_buffer.proofs.KnownLemmas.{change_name}
@@ -103,34 +103,32 @@ said_now feed name committed None changes (Some later) are more = absurd more
 said_now feed name committed (Some message) changes None are more = absurd more
 said_now feed name committed (Some message) changes (Some later) are more = said_is feed name (Some message) later more
 
-before_is : (feed : Feed) (name : RunName) (states : List FeedState) (feeds : List FeedChanges) → AreResolved feed states feeds
-    → last_given (λ (state : FeedState). said feed name state.committed) states ≡ form_before feeds name
-before_is feed name [] [] are = refl
-before_is feed name [] (changes ∷ feeds) are = absurd are
-before_is feed name (state ∷ states) [] are = absurd are
-before_is feed name (state ∷ states) (changes ∷ feeds) are =
-    λ i. first_of (before_is feed name states feeds are.1 i) (said_is feed name state.committed changes.committed are.0.committed i)
+before_is : (feed : Feed) (name : RunName) (states : List FeedState) → AreResolved feed states → last_given (λ (state : FeedState). said feed name state.committed) states ≡ form_before states name
+before_is feed name [] are = refl
+before_is feed name (state ∷ states) are =
+    λ i. first_of (before_is feed name states (All-tail (IsResolved feed) state states are) i)
+    (said_is feed name state.committed state.said.committed (All-head (IsResolved feed) state states are).committed i)
 
-now_is : (feed : Feed) (name : RunName) (states : List FeedState) (feeds : List FeedChanges) → AreResolved feed states feeds
-    → last_given (λ (state : FeedState). said feed name state.committed) (map settled states) ≡ form_now feeds name
-now_is feed name [] [] are = refl
-now_is feed name [] (changes ∷ feeds) are = absurd are
-now_is feed name (state ∷ states) [] are = absurd are
-now_is feed name (state ∷ states) (changes ∷ feeds) are =
-    λ i. first_of (now_is feed name states feeds are.1 i) (said_now feed name state.committed state.pending changes.committed changes.pending are.0.committed are.0.pending i)
+now_is : (feed : Feed) (name : RunName) (states : List FeedState) → AreResolved feed states
+    → last_given (λ (state : FeedState). said feed name state.committed) (map settled states) ≡ form_now states name
+now_is feed name [] are = refl
+now_is feed name (state ∷ states) are =
+    let own = All-head (IsResolved feed) state states are in
+    λ i. first_of (now_is feed name states (All-tail (IsResolved feed) state states are) i)
+    (said_now feed name state.committed state.pending state.said.committed state.said.pending own.committed own.pending i)
 
-module _ (feed : Feed) (states : List FeedState) (feeds : List FeedChanges) (history : List Commit) (sound : IsSound feed) (are : AreResolved feed states feeds) where
+module _ (feed : Feed) (states : List FeedState) (history : List Commit) (sound : IsSound feed) (are : AreResolved feed states) where
   -- the calls of a name where the states' committed messages are the history's
-  pub calls_committed : IsCommitted states history → (name : RunName) → calls_in (sched feed history) name ≡ calls_before feed feeds name
+  pub calls_committed : IsCommitted states history → (name : RunName) → calls_in (sched feed history) name ≡ calls_before feed states name
   calls_committed committed name =
       sched_calls feed history sound name
-      ∙ ap (λ o. in_force o (calls_in feed.runs name)) (form_committed feed states history name committed ∙ before_is feed name states feeds are)
+      ∙ ap (λ o. in_force o (calls_in feed.runs name)) (form_committed feed states history name committed ∙ before_is feed name states are)
 
   -- the same once the pending messages are the committed ones
-  pub calls_settled : IsCommitted (map settled states) history → (name : RunName) → calls_in (sched feed history) name ≡ calls_now feed feeds name
+  pub calls_settled : IsCommitted (map settled states) history → (name : RunName) → calls_in (sched feed history) name ≡ calls_now feed states name
   calls_settled committed name =
       sched_calls feed history sound name
-      ∙ ap (λ o. in_force o (calls_in feed.runs name)) (form_committed feed (map settled states) history name committed ∙ now_is feed name states feeds are)
+      ∙ ap (λ o. in_force o (calls_in feed.runs name)) (form_committed feed (map settled states) history name committed ∙ now_is feed name states are)
 
 unsaid : (changes : List Change) (name : RunName) → (IsIn name (map change_name changes) → ⊥) → form_in changes name ≡ None
 unsaid changes name out = from (named change_name name changes) refl
@@ -140,10 +138,12 @@ unsaid changes name out = from (named change_name name changes) refl
     from (Some change) e = absurd (out (in_named change_name name changes change e))
 
 -- of a name that isn't among the changed ones each feed says what it said
-pub form_kept : (feeds : List FeedChanges) (name : RunName) → (IsIn name (names_changed feeds) → ⊥) → form_before feeds name ≡ form_now feeds name
+pub form_kept : (states : List FeedState) (name : RunName) → (IsIn name (names_changed states) → ⊥) → form_before states name ≡ form_now states name
 form_kept [] name out = refl
-form_kept (changes ∷ feeds) name out =
-    λ i. first_of (form_kept feeds name (λ j. out (in_right name (names_pending changes.committed changes.pending) (names_changed feeds) j)) i) (own changes.committed changes.pending (λ j. out (in_left name (names_pending changes.committed changes.pending) (names_changed feeds) j)) i)
+form_kept (state ∷ states) name out =
+    let front = names_pending state.said.committed state.said.pending in
+    λ i. first_of (form_kept states name (λ j. out (in_right name front (names_changed states) j)) i)
+    (own state.said.committed state.said.pending (λ j. out (in_left name front (names_changed states) j)) i)
   where
     own : (committed : List Change) (pending : Option (List Change)) → (IsIn name (names_pending committed pending) → ⊥) → form_in committed name ≡ form_in (unwrap_or pending committed) name
     own committed None out = refl

@@ -1,13 +1,13 @@
 -- Steps of the loops over feeds, changes and names.
-use Rattle.std.proofs.Common.{◌≡◌, ℕ, ◌+◌, ◌<◌, ◌≤◌, suc, zero, List, [], ◌∷◌, ◌++◌, map, take, length, get_or, Option, Some, None, Bor, refl, sym, ◌∙◌, ap, subst, append_assoc, arith}
+use Rattle.std.proofs.Common.{◌≡◌, ℕ, ◌+◌, ◌<◌, suc, zero, List, [], ◌∷◌, ◌++◌, map, take, length, get_or, Option, Some, None, Bor, refl, sym, ◌∙◌, ap, subst, append_assoc, arith}
 use Rattle.std.specs.List.{All, AllPairs, Contains, dedup, flat_map}
 use Rattle.std.specs.List.Sorted.{IsPermutation, IsSorted, IsStrictlySortedBy}
 use Rattle.std.specs.Option.{option_map, option_or}
 use Rattle.std.specs.declared.cmp.Ordering.TheVariants.{Less}
 use Rattle.std.proofs.lemmas.Cmp.{eq_by_cmp_equiv}
 use Rattle.std.proofs.lemmas.Grind.{flat_map-append}
-use Rattle.std.proofs.lemmas.List.{append-nil, length-take-le, map_more, take_all, take_more}
-use Rattle.std.proofs.lemmas.List.Elements.{All-cons, All-from_recursion, All-nil}
+use Rattle.std.proofs.lemmas.List.{append-nil, length-take-le, map_more, take_more}
+use Rattle.std.proofs.lemmas.List.Elements.{All-from_recursion, All-weaker}
 use Rattle.std.proofs.lemmas.List.Kept.{AllPairs-cons, Contains-dedup, IsStrictlySortedBy-dedup}
 use Rattle.std.proofs.lemmas.List.Sorted.{Contains-permutation}
 use Rattle.otp_model.specs.Moves.{first_of}
@@ -21,7 +21,6 @@ use Rattle.otp_model.specs.declared.timetable.Feed.{Feed}
 use Rattle.otp_model.proofs.NameLemmas.{run_name_cmp_total}
 use Rattle.change_buffer.specs.Commits.{numbered, pending_from, pending_of}
 use Rattle.change_buffer.specs.Forms.{AreNamesChanged, ArePending, AreResolved, AreRising, AreSaid, HasRising, IsResolved, changes_now, form_in, last_given, names_changed}
-use Rattle.change_buffer.specs.declared.feed_changes.FeedChanges.{FeedChanges}
 use Rattle.change_buffer.specs.declared.feed_state.FeedState.{FeedState}
 use Rattle.change_buffer.proofs.FormLemmas.{last_given_push}
 use Rattle.change_buffer.proofs.KnownLemmas.{change_name}
@@ -82,23 +81,7 @@ pub form_or : (a b c : Option (Bor Change)) → c ≡ option_or a b → option_m
 form_or None b c is = ap (option_map calls_behind) is
 form_or (Some change) b c is = ap (option_map calls_behind) is
 
--- what the feeds say, one feed more
-
-resolved_push : (feed : Feed) (states : List FeedState) (feeds : List FeedChanges) (state : FeedState) (changes : FeedChanges) → AreResolved feed states feeds
-    → IsResolved feed state changes → AreResolved feed (states ++ state ∷ []) (feeds ++ changes ∷ [])
-resolved_push feed [] [] state changes are is = (is, tt)
-resolved_push feed [] (first ∷ feeds) state changes are is = absurd are
-resolved_push feed (first ∷ states) [] state changes are is = absurd are
-resolved_push feed (first ∷ states) (one ∷ feeds) state changes are is = (are.0, resolved_push feed states feeds state changes are.1 is)
-
-pub resolved_read : (feed : Feed) (states : List FeedState) (feeds later : List FeedChanges) (i : ℕ) (state : FeedState) (changes : FeedChanges) → i < length states
-    → state ≡ get_or states i state → AreResolved feed (take i states) feeds → IsResolved feed state changes → later ≡ feeds ++ changes ∷ [] → AreResolved feed (take (i + 1) states) later
-resolved_read feed states feeds later i state changes less read are is pushed =
-    subst (λ (fs : List FeedChanges). AreResolved feed (take (i + 1) states) fs) (sym pushed)
-    (subst (λ (ss : List FeedState). AreResolved feed ss (feeds ++ changes ∷ [])) (sym (take_read states i state less read)) (resolved_push feed (take i states) feeds state changes are is))
-
-pub resolved_whole : (feed : Feed) (states : List FeedState) (feeds : List FeedChanges) (i : ℕ) → length states ≤ i → AreResolved feed (take i states) feeds → AreResolved feed states feeds
-resolved_whole feed states feeds i all are = subst (λ (ss : List FeedState). AreResolved feed ss feeds) (take_all i states all) are
+-- what is kept of the feeds rises
 
 said_rises : (feed : Feed) (message : Option Message) (changes : List Change) → AreSaid feed message changes → AreRising changes
 said_rises feed None changes are = subst AreRising (sym are) (λ i j d l m. absurd (omega arith))
@@ -110,16 +93,14 @@ now_rises feed message pending committed None are more = said_rises feed message
 now_rises feed message None committed (Some changes) are more = absurd more
 now_rises feed message (Some later) committed (Some changes) are more = more.rise
 
-pub resolved_rise : (feed : Feed) (states : List FeedState) (feeds : List FeedChanges) → AreResolved feed states feeds → All HasRising feeds
-resolved_rise feed states [] are = All-nil HasRising
-resolved_rise feed [] (changes ∷ feeds) are = absurd are
-resolved_rise feed (state ∷ states) (changes ∷ feeds) are =
-    All-cons HasRising changes feeds
-    (record {
-      committed = said_rises feed state.committed changes.committed are.0.committed;
-      now = now_rises feed state.committed state.pending changes.committed changes.pending are.0.committed are.0.pending;
+pub resolved_rise : (feed : Feed) (states : List FeedState) → AreResolved feed states → All HasRising states
+resolved_rise feed states are =
+    All-weaker (IsResolved feed) HasRising
+    (λ state is. record {
+      committed = said_rises feed state.committed state.said.committed is.committed;
+      now = now_rises feed state.committed state.pending state.said.committed state.said.pending is.committed is.pending;
     })
-    (resolved_rise feed states feeds are.1)
+    states are
 
 -- pending messages, one feed more
 
@@ -148,14 +129,14 @@ unfolding IsStrictlySortedBy
 pairs_from_strict [] h = λ i j d l m. absurd (omega arith)
 pairs_from_strict (name ∷ names) h = AllPairs-cons IsNameBelow name names (All-from_recursion (λ other. run_name_cmp name other ≡ Less) names h.0) (pairs_from_strict names h.1)
 
-pub names_sorted : (feeds : List FeedChanges) (names sorted rest : List RunName) → names ≡ names_changed feeds → IsPermutation names sorted → IsSorted run_name_cmp sorted
-    → rest ≡ dedup is_same_name sorted → AreNamesChanged feeds rest
-names_sorted feeds names sorted rest are permuted order is = record {
+pub names_sorted : (states : List FeedState) (names sorted rest : List RunName) → names ≡ names_changed states → IsPermutation names sorted → IsSorted run_name_cmp sorted
+    → rest ≡ dedup is_same_name sorted → AreNamesChanged states rest
+names_sorted states names sorted rest are permuted order is = record {
   rise = subst (AllPairs IsNameBelow) (sym is) (pairs_from_strict (dedup is_same_name sorted) (IsStrictlySortedBy-dedup run_name_cmp_total {E = is_same_name} (λ x y. refl) sorted order));
   whole = λ k d l.
-      let there : Contains names (get_or (names_changed feeds) k d) = subst (λ (ns : List RunName). Contains ns (get_or (names_changed feeds) k d)) (sym are) (k, l, same k d l) in
-      subst (λ (ns : List RunName). Contains ns (get_or (names_changed feeds) k d)) (sym is)
-      (Contains-dedup (eq_by_cmp_equiv run_name_cmp_total) same_from sorted (get_or (names_changed feeds) k d) (Contains-permutation names sorted (get_or (names_changed feeds) k d) permuted there));
+      let there : Contains names (get_or (names_changed states) k d) = subst (λ (ns : List RunName). Contains ns (get_or (names_changed states) k d)) (sym are) (k, l, same k d l) in
+      subst (λ (ns : List RunName). Contains ns (get_or (names_changed states) k d)) (sym is)
+      (Contains-dedup (eq_by_cmp_equiv run_name_cmp_total) same_from sorted (get_or (names_changed states) k d) (Contains-permutation names sorted (get_or (names_changed states) k d) permuted there));
 }
   where
     same_at : (ns : List RunName) (k : ℕ) (d e : RunName) → k < length ns → get_or ns k e ≡ get_or ns k d
@@ -163,5 +144,5 @@ names_sorted feeds names sorted rest are permuted order is = record {
     same_at (n ∷ ns) zero d e l = refl
     same_at (n ∷ ns) (suc k) d e l = same_at ns k d e (omega arith)
 
-    same : (k : ℕ) (d : RunName) → k < length (names_changed feeds) → get_or (names_changed feeds) k (get_or (names_changed feeds) k d) ≡ get_or (names_changed feeds) k d
-    same k d l = same_at (names_changed feeds) k d (get_or (names_changed feeds) k d) l
+    same : (k : ℕ) (d : RunName) → k < length (names_changed states) → get_or (names_changed states) k (get_or (names_changed states) k d) ≡ get_or (names_changed states) k d
+    same k d l = same_at (names_changed states) k d (get_or (names_changed states) k d) l

@@ -29,21 +29,22 @@ ArePending feed None (Some changes) = ⊥
 ArePending feed (Some message) None = ⊥
 ArePending feed (Some message) (Some changes) = AreChangesOf feed message changes
 
--- what the messages of a feed say
-pub record IsResolved (feed : Feed) (state : FeedState) (changes : FeedChanges) : Type 0 where
-  pub committed : AreSaid feed state.committed changes.committed
-  pub pending : ArePending feed state.pending changes.pending
+-- the changes that are kept of a feed are those that its messages make
+pub record IsResolved (feed : Feed) (state : FeedState) : Type 0 where
+  pub committed : AreSaid feed state.committed state.said.committed
+  pub pending : ArePending feed state.pending state.said.pending
 
--- what the messages of each feed say
-abbrev pub AreResolved : Feed → List FeedState → List FeedChanges → Type 0
-AreResolved feed [] [] = Unit {0}
-AreResolved feed [] (changes ∷ rest) = ⊥
-AreResolved feed (state ∷ states) [] = ⊥
-AreResolved feed (state ∷ states) (changes ∷ rest) = IsResolved feed state changes × AreResolved feed states rest
+-- the same of each feed
+abbrev pub AreResolved : Feed → List FeedState → Type 0
+AreResolved feed states = All (IsResolved feed) states
 
 -- what a feed says once its pending message, if it has one, is committed
 abbrev pub changes_now : FeedChanges → List Change
 changes_now changes = unwrap_or changes.pending changes.committed
+
+-- the same, as what it says by its committed message
+abbrev pub changes_settled : FeedChanges → FeedChanges
+changes_settled changes = record { committed = changes_now changes; pending = None }
 
 -- the form of a name in changes, if they have one
 abbrev pub form_in : List Change → RunName → Option (Option (List Call))
@@ -54,22 +55,22 @@ abbrev pub last_given : {X Y : Type 0} → (X → Option Y) → List X → Optio
 last_given give [] = None
 last_given give (x ∷ xs) = first_of (last_given give xs) (give x)
 
-abbrev pub form_before : List FeedChanges → RunName → Option (Option (List Call))
-form_before feeds name = last_given (λ (changes : FeedChanges). form_in changes.committed name) feeds
+abbrev pub form_before : List FeedState → RunName → Option (Option (List Call))
+form_before states name = last_given (λ (state : FeedState). form_in state.said.committed name) states
 
-abbrev pub form_now : List FeedChanges → RunName → Option (Option (List Call))
-form_now feeds name = last_given (λ (changes : FeedChanges). form_in (changes_now changes) name) feeds
+abbrev pub form_now : List FeedState → RunName → Option (Option (List Call))
+form_now states name = last_given (λ (state : FeedState). form_in (changes_now state.said) name) states
 
 -- the calls of a form, or without one those of the feed
 abbrev pub in_force : Option (Option (List Call)) → Option (List Call) → Option (List Call)
 in_force None planned = planned
 in_force (Some calls) planned = calls
 
-abbrev pub calls_before : Feed → List FeedChanges → RunName → Option (List Call)
-calls_before feed feeds name = in_force (form_before feeds name) (calls_in feed.runs name)
+abbrev pub calls_before : Feed → List FeedState → RunName → Option (List Call)
+calls_before feed states name = in_force (form_before states name) (calls_in feed.runs name)
 
-abbrev pub calls_now : Feed → List FeedChanges → RunName → Option (List Call)
-calls_now feed feeds name = in_force (form_now feeds name) (calls_in feed.runs name)
+abbrev pub calls_now : Feed → List FeedState → RunName → Option (List Call)
+calls_now feed states name = in_force (form_now states name) (calls_in feed.runs name)
 
 abbrev pub is_same_call : Call → Call → Bool
 is_same_call a b =
@@ -87,27 +88,27 @@ abbrev pub difference : RunName → Option (List Call) → Option (List Call) �
 difference name before now = if are_same_calls before now then [] else record { name = name; calls = now } ∷ []
 
 -- the changes among these names
-abbrev pub differences : Feed → List FeedChanges → List RunName → List Change
-differences feed feeds names = flat_map (λ name. difference name (calls_before feed feeds name) (calls_now feed feeds name)) names
+abbrev pub differences : Feed → List FeedState → List RunName → List Change
+differences feed states names = flat_map (λ name. difference name (calls_before feed states name) (calls_now feed states name)) names
 
 -- the names of which a feed may say something else once its pending message is committed
 abbrev pub names_pending : List Change → Option (List Change) → List RunName
 names_pending committed None = []
 names_pending committed (Some pending) = map (λ (change : Change). change.name) committed ++ map (λ (change : Change). change.name) pending
 
-abbrev pub names_changed : List FeedChanges → List RunName
-names_changed feeds = flat_map (λ (changes : FeedChanges). names_pending changes.committed changes.pending) feeds
+abbrev pub names_changed : List FeedState → List RunName
+names_changed states = flat_map (λ (state : FeedState). names_pending state.said.committed state.said.pending) states
 
 -- names by rising order, each once, among which are all of which a feed may say something else
-pub record AreNamesChanged (feeds : List FeedChanges) (names : List RunName) : Type 0 where
+pub record AreNamesChanged (states : List FeedState) (names : List RunName) : Type 0 where
   pub rise : AllPairs IsNameBelow names
-  pub whole : All (Contains names) (names_changed feeds)
+  pub whole : All (Contains names) (names_changed states)
 
 -- changes by rising name
 abbrev pub AreRising : List Change → Type 0
 AreRising changes = AllPairs (λ (a b : Change). IsNameBelow a.name b.name) changes
 
--- each of the lists is by rising name
-pub record HasRising (changes : FeedChanges) : Type 0 where
-  pub committed : AreRising changes.committed
-  pub now : AreRising (changes_now changes)
+-- each of the lists that are kept of a feed is by rising name
+pub record HasRising (state : FeedState) : Type 0 where
+  pub committed : AreRising state.said.committed
+  pub now : AreRising (changes_now state.said)

@@ -4,7 +4,7 @@ ghost use Rattle.std.specs.Option.{option_map, option_to_list};
 ghost use Rattle.otp_model.specs.Sound.{IsRunBelow};
 ghost use Rattle.change_buffer.specs.Forms.{HasRising, are_same_calls, calls_before, calls_now, difference, differences};
 
-use crate::feed_changes::FeedChanges;
+use crate::feed_state::FeedState;
 use crate::forms::{calls_in_force, change_before, change_now};
 use otp_base::{List, Memory};
 use otp_model::{Call, Change, Feed, RunName};
@@ -14,7 +14,7 @@ use std::alloc::Global;
 pub fn differences(
     alloc: Global,
     feed: &Feed,
-    feeds: &[FeedChanges],
+    feeds: &[FeedState],
     names: Vec<RunName>,
 ) -> Result<List<Change>, Memory>
     requires runs { AllPairs IsRunBelow feed.now.runs }
@@ -31,7 +31,7 @@ pub fn differences(
 fn difference_of(
     alloc: Global,
     feed: &Feed,
-    feeds: &[FeedChanges],
+    feeds: &[FeedState],
     name: RunName,
 ) -> Result<Option<Change>, Memory>
     requires runs { AllPairs IsRunBelow feed.now.runs }

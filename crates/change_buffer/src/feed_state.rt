@@ -1,25 +1,29 @@
 ghost use Rattle.std.specs.Prelude.{◌≡◌, OnOk, OnErr};
 ghost use Rattle.change_buffer.specs.Offers.{above_of, answer_to, fresh, is_pending, settled, with_message};
 
+use crate::feed_changes::FeedChanges;
 use crate::offer_fault::OfferFault;
-use otp_model::Message;
+use otp_base::List;
+use otp_model::{Change, Message};
+use std::alloc::Global;
 
 /// The greatest count of accepted messages.
 const MOST_ACCEPTED: u64 = 1 << 40;
 
 /// What a buffer keeps of one real-time feed: how many messages were accepted, the timestamp of the last of
-/// them that had one, the message that was committed last, and the one that the next commit publishes.
+/// them that had one, the message that was committed last, the one that the next commit publishes, and what the two say.
 #[derive(Debug, Drop)]
 pub struct FeedState {
     pub accepted: u64,
     pub timestamp: Option<u64>,
     pub committed: Option<Message>,
     pub pending: Option<Message>,
+    pub said: FeedChanges,
 }
 
 impl FeedState {
     /// A feed of which nothing was accepted.
-    pub fn new() -> FeedState
+    pub fn new(alloc: Global) -> FeedState
         ensures { result ≡ fresh }
     {
         FeedState {
@@ -27,13 +31,15 @@ impl FeedState {
             timestamp: None,
             committed: None,
             pending: None,
+            said: FeedChanges::new(alloc),
         }
     }
 
-    /// Makes a message the pending one, and answers how many were accepted with it. An `Err` changes nothing.
-    pub fn offer(&mut self, message: Message) -> Result<u64, OfferFault>
+    /// Makes a message, which makes these changes, the pending one, and answers how many were accepted with it. An `Err`
+    /// changes nothing.
+    pub fn offer(&mut self, message: Message, changes: List<Change>) -> Result<u64, OfferFault>
         ensures answer { result ≡ answer_to self.old message }
-        ensures ok { OnOk result (self.new ≡ with_message self.old message) }
+        ensures ok { OnOk result (self.new ≡ with_message self.old message changes) }
         ensures err { OnErr result (self.new ≡ self.old) }
     {
         if let Some(have) = above(self.timestamp, message.timestamp) {
@@ -45,6 +51,7 @@ impl FeedState {
         self.accepted += 1;
         self.timestamp = message.timestamp.or(self.timestamp);
         self.pending = Some(message);
+        self.said.pending = Some(changes);
         Ok(self.accepted)
     }
 
@@ -66,6 +73,7 @@ impl FeedState {
             Some(message) => self.committed = Some(message),
             None => {}
         }
+        self.said.settle();
     }
 }
 

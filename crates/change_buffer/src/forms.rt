@@ -5,30 +5,30 @@ ghost use Rattle.otp_model.specs.Schedule.{calls_in};
 ghost use Rattle.otp_model.specs.Sound.{IsRunBelow};
 ghost use Rattle.change_buffer.specs.Forms.{HasRising, form_before, form_now, in_force};
 
-use crate::feed_changes::FeedChanges;
+use crate::feed_state::FeedState;
 use crate::named::{change_named, run_named};
 use otp_model::{Call, Change, Run, RunName};
 
 /// What the committed messages say of a name: the change of the last feed that has one.
-pub fn change_before<'a>(feeds: &'a [FeedChanges], name: &RunName) -> Option<&'a Change>
+pub fn change_before<'a>(feeds: &'a [FeedState], name: &RunName) -> Option<&'a Change>
     requires { All HasRising feeds.now }
     ensures { option_map (λ change. change.now.calls) result ≡ form_before feeds.now name.now }
 {
     let mut last = None;
     for feed in feeds {
-        last = change_named(feed.committed.as_slice(), name).or(last);
+        last = change_named(feed.said.committed.as_slice(), name).or(last);
     }
     last
 }
 
 /// What the messages say of it once the pending ones are committed.
-pub fn change_now<'a>(feeds: &'a [FeedChanges], name: &RunName) -> Option<&'a Change>
+pub fn change_now<'a>(feeds: &'a [FeedState], name: &RunName) -> Option<&'a Change>
     requires { All HasRising feeds.now }
     ensures { option_map (λ change. change.now.calls) result ≡ form_now feeds.now name.now }
 {
     let mut last = None;
     for feed in feeds {
-        last = change_named(feed.now(), name).or(last);
+        last = change_named(feed.said.now(), name).or(last);
     }
     last
 }

@@ -5,13 +5,13 @@ ghost use Rattle.otp_model.specs.Names.{run_name_cmp};
 ghost use Rattle.otp_model.specs.Resolution.{is_same_name};
 ghost use Rattle.change_buffer.specs.Forms.{AreNamesChanged, names_changed, names_pending};
 
-use crate::feed_changes::FeedChanges;
+use crate::feed_state::FeedState;
 use otp_base::{Copied, List, Memory};
 use otp_model::{Change, RunName};
 use std::alloc::Global;
 
 /// The names of which a feed may say something else once its pending message is committed, rising, each once.
-pub fn names_in_order(alloc: Global, feeds: &[FeedChanges]) -> Result<Vec<RunName>, Memory>
+pub fn names_in_order(alloc: Global, feeds: &[FeedState]) -> Result<Vec<RunName>, Memory>
     ensures { IfOk result (λ names. AreNamesChanged feeds.now names.items) }
 {
     let mut names = names_changed(alloc, feeds)?;
@@ -20,12 +20,13 @@ pub fn names_in_order(alloc: Global, feeds: &[FeedChanges]) -> Result<Vec<RunNam
     Ok(names)
 }
 
-fn names_changed(alloc: Global, feeds: &[FeedChanges]) -> Result<Vec<RunName>, Memory>
+fn names_changed(alloc: Global, feeds: &[FeedState]) -> Result<Vec<RunName>, Memory>
     ensures { IfOk result (λ names. names.items ≡ names_changed feeds.now) }
 {
     let mut names = Vec::new(alloc);
     for feed in feeds {
-        push_pending(alloc, &mut names, feed.committed.as_slice(), &feed.pending)?;
+        let said = &feed.said;
+        push_pending(alloc, &mut names, said.committed.as_slice(), &said.pending)?;
     }
     Ok(names)
 }

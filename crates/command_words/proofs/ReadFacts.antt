@@ -4,6 +4,7 @@ use Rattle.std.specs.Prelude.{IfErr, IfOk, IsSomeAnd, Result, Ok, Err, unwrap_or
 use Rattle.otp_base.specs.Optionals.{◌>>=◌}
 use Rattle.otp_model.specs.declared.options.Options.{Options}
 use Rattle.command_words.specs.Commands.{IsCommandOf, IsTask, Refuses, Task, task_on}
+use Rattle.command_words.specs.Serving.{Given}
 use Rattle.command_words.specs.Values.{AreAsked, Asked}
 use Rattle.command_words.specs.declared.command.Command.{Command}
 use Rattle.command_words.specs.declared.command.WordsFault.{WordsFault}
@@ -21,9 +22,9 @@ no-options read next task faults.Words is none = is ∙ ap (λ asked. asked >>= 
 no-options read next task faults.Memory is none = tt
 
 -- what a command of this name and these positional words is, or that there is none, said of the words
-pub a-command : (read : Option Asked) (name given : List ℕ) (positionals on : List (List ℕ)) (options : Options) (answer : Result Command WordsFault) (task : Option Task)
-    → task ≡ (read >>= task_on name positionals) → given ≡ name → on ≡ positionals → IsSomeAnd read (λ asked. AreAsked asked options)
-    → IsCommandOf given on options answer → IfOk answer (λ command. IsSomeAnd task (IsTask command)) × IfErr answer (Refuses task)
-a-command None name given positionals on options answer task is named same asked of = absurd asked
-a-command (Some asked) name given positionals on options (Ok command) task is named same are of = (rw (is, ← named, ← same) (of asked are), tt)
-a-command (Some asked) name given positionals on options (Err fault) task is named same are of = (tt, rw (is, ← named, ← same) (of asked are))
+pub a-command : (read : Option Asked) (name given : List ℕ) (positionals on : List (List ℕ)) (options : Options) (texts : Given) (answer : Result Command WordsFault) (task : Option Task)
+    → task ≡ (read >>= task_on name positionals texts) → given ≡ name → on ≡ positionals → IsSomeAnd read (λ asked. AreAsked asked options)
+    → IsCommandOf given on texts options answer → IfOk answer (λ command. IsSomeAnd task (IsTask command)) × IfErr answer (Refuses task)
+a-command None name given positionals on options texts answer task is named same asked of = absurd asked
+a-command (Some asked) name given positionals on options texts (Ok command) task is named same are of = (rw (is, ← named, ← same) (of asked are), tt)
+a-command (Some asked) name given positionals on options texts (Err fault) task is named same are of = (tt, rw (is, ← named, ← same) (of asked are))

@@ -1,4 +1,4 @@
--- The options and the positional words of `check` and `plan`, as `clap` is told of them and gives them.
+-- The options and the positional words of a command, as `clap` is told of them and gives them.
 use Rattle.std.specs.Prelude.{List, [], Option, Some, codes, fold, unwrap_or}
 use Rattle.clap.specs.Words.{App, Row, Rule, Text, all_of, first_value, found_of, new_app, new_rule}
 use Rattle.clap.specs.Simple.{with_rule}

@@ -4,9 +4,11 @@ use Rattle.std.specs.Prelude.{ℕ, List, [], ◌∷◌, ◌++◌, Option, Some, 
 use Rattle.std.specs.List.{count_by, list_all, list_any}
 use Rattle.std.specs.Str.{bytes_eq}
 
--- the options of `check` and `plan`
+-- the options of every command, and the last three of `serve` alone
 abbrev pub option_names : List (List ℕ)
-option_names = codes "zone" ∷ codes "from" ∷ codes "days" ∷ codes "feeds" ∷ codes "speed" ∷ codes "reach" ∷ codes "scale" ∷ []
+option_names =
+    codes "zone" ∷ codes "from" ∷ codes "days" ∷ codes "feeds" ∷ codes "speed" ∷ codes "reach" ∷ codes "scale"
+    ∷ codes "port" ∷ codes "workers" ∷ codes "connections" ∷ []
 
 -- the word that names an option
 abbrev pub dashed : List ℕ → List ℕ

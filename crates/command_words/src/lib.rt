@@ -5,8 +5,10 @@
 mod app;
 mod command;
 mod messages;
+mod serving;
 mod values;
 mod words;
 
 pub use command::{Command, WordsFault, read_words};
 pub use messages::MessageWord;
+pub use serving::Serving;

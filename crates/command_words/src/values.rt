@@ -77,7 +77,19 @@ fn first_day_in(text: Option<&str>) -> Option<DayNo>
 }
 
 /// A number from `low` to `high`, or `usual` where none is given.
-fn number_or(usual: u32, low: u32, high: u32, text: Option<&str>) -> Option<u32>
+pub fn number_or(usual: u32, low: u32, high: u32, text: Option<&str>) -> Option<u32>
+    requires range { (low ≤ usual) × (usual ≤ high) }
+    ensures number { result ≡ number_or usual low high (text_given text.entry) }
+    ensures range { IfSome result (λ n. (low ≤ n) × (n ≤ high)) }
+{
+    match count_or(u64::from(usual), u64::from(low), u64::from(high), text) {
+        Some(number) => Some(number as u32),
+        None => None,
+    }
+}
+
+/// A greater number from `low` to `high`, or `usual` where none is given.
+pub fn count_or(usual: u64, low: u64, high: u64, text: Option<&str>) -> Option<u64>
     requires range { (low ≤ usual) × (usual ≤ high) }
     ensures number { result ≡ number_or usual low high (text_given text.entry) }
     ensures range { IfSome result (λ n. (low ≤ n) × (n ≤ high)) }
@@ -85,8 +97,5 @@ fn number_or(usual: u32, low: u32, high: u32, text: Option<&str>) -> Option<u32>
     let Some(text) = text else {
         return Some(usual);
     };
-    match number_in(u64::from(low), u64::from(high), text) {
-        Some(number) => Some(number as u32),
-        None => None,
-    }
+    number_in(low, high, text)
 }

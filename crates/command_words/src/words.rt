@@ -2,8 +2,19 @@ ghost use Rattle.std.specs.Prelude.{◌≡◌, is_some, map, option_map, string_
 ghost use Rattle.std.specs.Str.{bytes_eq};
 ghost use Rattle.command_words.specs.Words.{are_once, behind_option, dashed, is_once, is_option, is_plain, positionals_of};
 
-/// The options of `check` and `plan`, by name.
-pub const OPTION_NAMES: [&str; 7] = ["zone", "from", "days", "feeds", "speed", "reach", "scale"];
+/// The options by name: those of every command, and the last three of `serve` alone.
+pub const OPTION_NAMES: [&str; 10] = [
+    "zone",
+    "from",
+    "days",
+    "feeds",
+    "speed",
+    "reach",
+    "scale",
+    "port",
+    "workers",
+    "connections",
+];
 
 /// Whether a word is not empty and doesn't begin with `-`.
 fn is_plain(word: &str) -> bool
@@ -25,7 +36,7 @@ fn names(word: &str, option: &str) -> bool
     }
 }
 
-/// Whether a word names an option of `check` and `plan`.
+/// Whether a word names an option.
 fn is_option(word: &str) -> bool
     ensures { result ≡ is_option word.now }
 {

@@ -1,5 +1,6 @@
 ghost use Rattle.std.specs.Prelude.{◌≡◌, ◌<◌, IfOk};
 ghost use Rattle.std.specs.List.{AllPairs};
+ghost use Rattle.otp_model.specs.declared.timetable.Feed.{Feed};
 ghost use Rattle.snapshot_store.specs.Changing.{IsChangeBelow};
 ghost use Rattle.commit_bench.specs.Ready.{IsReady};
 
@@ -7,14 +8,14 @@ use crate::stop::Stop;
 use change_buffer::{Buffer, Prepared};
 use otp_base::{Memory, Steps};
 use otp_model::{Change, Message};
-use rt_resolve::Lookup;
+use rt_resolve::{Lookup, Resolved};
 use snapshot_store::Snapshot;
 use std::alloc::Global;
 use std::sync::ledger::{Blank, Ledger};
 
 /// A buffer of one real-time feed.
 pub fn buffer_of_one(alloc: Global) -> Result<Buffer, Memory>
-    ensures { IfOk result IsReady }
+    ensures { IfOk result (λ buffer. (feed : Feed) → IsReady feed buffer) }
 {
     Buffer::new(alloc, 1)
 }
@@ -26,14 +27,15 @@ pub fn prepared(
     buffer: &mut Buffer,
     message: Message,
 ) -> Result<Prepared, Stop>
-    requires { IsReady buffer.old }
-    ensures ready { IsReady buffer.new }
+    requires { IsReady lookup.now buffer.old }
+    ensures ready { IsReady lookup.now buffer.new }
     ensures rise { IfOk result (λ prepared. AllPairs IsChangeBelow prepared.changes) }
 {
-    if buffer.offer(1, message).is_err() {
+    let Resolved { changes, .. } = lookup.resolve(alloc, &message)?;
+    if buffer.offer(1, message, changes).is_err() {
         return Err(Stop::Older);
     }
-    Ok(buffer.prepare_with(alloc, lookup)?)
+    Ok(buffer.prepare(alloc, lookup.feed())?)
 }
 
 /// The snapshot after changes.
@@ -54,8 +56,7 @@ pub fn applied<L: Ledger>(
 
 /// Makes what is pending the committed messages.
 pub fn settle(buffer: &mut Buffer)
-    requires { IsReady buffer.old }
-    ensures { IsReady buffer.new }
+    ensures { (feed : Feed) → IsReady feed buffer.old → IsReady feed buffer.new }
 {
     buffer.settle();
 }

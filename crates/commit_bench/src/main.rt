@@ -35,6 +35,13 @@ fn carry_out(rt: &HostRuntime, words: &[String]) -> Result<(), Stop> {
                 options: _options,
             },
         ) => Err(Stop::Words),
+        Ok(
+            Command::Serve {
+                folder: _folder,
+                options: _options,
+                serving: _serving,
+            },
+        ) => Err(Stop::Words),
         Err(_fault) => Err(Stop::Words),
     }
 }

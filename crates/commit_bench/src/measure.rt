@@ -46,7 +46,7 @@ pub fn run(
     commit_all(rt, timed, &loaded.feed, words)
 }
 
-/// Commits the messages that words name. All snapshots are kept until the end.
+/// Commits the messages that words name. As in a server, the snapshot before the latest one is kept, which readers may still have.
 fn commit_all(
     rt: &HostRuntime,
     timed: bool,
@@ -60,13 +60,14 @@ fn commit_all(
     let index = indexed(rt, timed, feed)?;
     let lookup = Lookup::of(feed, &index);
     let mut latest = built(rt, timed, feed)?;
-    let mut earlier = Vec::new(alloc);
+    let mut earlier = None;
     for word in words {
         let next = committed(rt, timed, &lookup, &mut buffer, &latest, word.name)?;
-        earlier.push(latest)?;
+        earlier = Some(latest);
         latest = next;
     }
-    println!(rt; "kept snapshots={}", earlier.len().saturating_add(1))?;
+    let kept = if earlier.is_some() { 2 } else { 1 };
+    println!(rt; "kept snapshots={kept}")?;
     Ok(())
 }
 
@@ -108,8 +109,8 @@ fn committed(
     latest: &Snapshot,
     name: &str,
 ) -> Result<Snapshot, Stop>
-    requires { IsReady buffer.old }
-    ensures { IsReady buffer.new }
+    requires { IsReady lookup.now buffer.old }
+    ensures { IsReady lookup.now buffer.new }
 {
     let alloc = rt.alloc();
     let mut folder = DiskFolder::new(rt);

@@ -7,6 +7,7 @@ use Rattle.std.proofs.lemmas.List.Elements.{All-cons, All-head, All-nil, All-tai
 use Rattle.otp_model.proofs.JudgedLemmas.{by_test}
 use Rattle.otp_model.specs.Core.{History}
 use Rattle.otp_model.specs.declared.message.Commit.{Commit}
+use Rattle.otp_model.specs.declared.change.Change.{Change}
 use Rattle.otp_model.specs.declared.message.Message.{Message}
 use Rattle.change_buffer.specs.Offers as offers
 use Rattle.change_buffer.specs.declared.feed_state.FeedState.{FeedState}
@@ -63,12 +64,12 @@ below_most None accepted count e =
     (λ t. absurd (let never : ◌≡◌ {A = Result ℕ OfferFault} (Err CountSpent) (Ok count) = rw t at e in cc))
     (λ f. grind (arith, nat_tests))
 
-pub counted_offer : (states now : List FeedState) (history : History) (place : ℕ) (state : FeedState) (message : Message) (answer : Result ℕ OfferFault)
+pub counted_offer : (states now : List FeedState) (history : History) (place : ℕ) (state : FeedState) (message : Message) (changes : List Change) (answer : Result ℕ OfferFault)
     → slice_get states place ≡ Some state → answer ≡ offers.answer_to state message
-    → OnOk answer (now ≡ slice_set states place (offers.with_message state message)) → OnErr answer (now ≡ states) → IsCounted states history → IsCounted now history
-counted_offer states now history place state message (Err why) found told ok err is = subst (λ ss. IsCounted ss history) (sym err) is
-counted_offer states now history place state message (Ok count) found told ok err is =
-    let changed = offers.with_message state message in
+    → OnOk answer (now ≡ slice_set states place (offers.with_message state message changes)) → OnErr answer (now ≡ states) → IsCounted states history → IsCounted now history
+counted_offer states now history place state message changes (Err why) found told ok err is = subst (λ ss. IsCounted ss history) (sym err) is
+counted_offer states now history place state message changes (Ok count) found told ok err is =
+    let changed = offers.with_message state message changes in
     let few : state.accepted < 2 ^ 40 = below_most (offers.above_of state.timestamp message.timestamp) state.accepted count (sym told) in
     let more = one_more states place state changed found refl in
     let most = one_most (slice_set states place changed) in

@@ -11,6 +11,7 @@ use Rattle.otp_model.specs.declared.change.Change.{Change}
 use Rattle.otp_model.specs.declared.message.Commit.{Commit}
 use Rattle.otp_model.specs.declared.timetable.Feed.{Feed}
 use Rattle.change_buffer.specs.Commits.{IsCommitted, pending_of}
+use Rattle.change_buffer.specs.Forms.{AreResolved}
 use Rattle.change_buffer.specs.Offers.{is_pending, settled}
 use Rattle.change_buffer.specs.declared.feed_state.FeedState.{FeedState}
 use Rattle.rt_resolve.specs.declared.lookup.FeedIndex.{FeedIndex}
@@ -103,14 +104,16 @@ done_committed before now states later commit number note some room messages pub
 pub still_desk : (feed : Feed) (before now : WriterView) (states later : List FeedState) (index : FeedIndex) (newest next : Snapshot) (commit : Commit) → IsDesk feed before states index newest
     → now ≡ with_commit before commit → commit.messages ≡ pending_in (map slot_of states)
     → ((history : History) (c : Commit) → c.messages ≡ pending_of states → IsCommitted states history → IsCommitted later (history ++ c ∷ []))
+    → ((f : Feed) → AreResolved f states → AreResolved f later)
     → IsSnapshotOf next before.feed (before.history ++ commit ∷ []) → later ≡ map settled states → list_any is_pending states ≡ true → length before.history < 2 ^ 40
     → IsDesk feed now later index next
-still_desk feed before now states later index newest next commit desk published messages committed stands kept some room =
+still_desk feed before now states later index newest next commit desk published messages committed resolved stands kept some room =
     subst (λ (w : WriterView). IsDesk feed w later index next) (sym published) (record {
       sound = desk.sound;
       indexed = desk.indexed;
       feed_is = desk.feed_is;
       committed = committed before.history commit (messages ∙ sym (pending_is states)) desk.committed;
+      resolved = resolved feed desk.resolved;
       stands = subst (λ (f : Feed). IsSnapshotOf next f (before.history ++ commit ∷ [])) (sym desk.feed_is) stands;
       counted = subst (λ (ls : List FeedState). IsCounted ls (before.history ++ commit ∷ [])) (sym kept) (counted_commit states before.history commit some room desk.counted);
     })

@@ -2,5 +2,5 @@ mod SlotLemmas
 pub mod ScheduleLemmas
 mod CostLemmas
 mod DeskLemmas
-mod MeetingLemmas
+pub mod MeetingLemmas
 pub mod CountLemmas

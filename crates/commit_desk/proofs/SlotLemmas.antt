@@ -1,5 +1,5 @@
 -- What a buffer's calls do to what sessions share.
-use Rattle.std.proofs.Common.{◌≡◌, ◌≢◌, ℕ, zero, suc, ◌<◌, ◌^◌, true, false, nat_lt, nat_le, List, [], ◌∷◌, ◌++◌, length, map, replicate, slice_get, slice_set, Option, Some, None, Result, Ok, Err, OnOk, OnErr, refl, sym, ap, subst, ◌∙◌, arith}
+use Rattle.std.proofs.Common.{◌≡◌, ◌≢◌, ℕ, zero, suc, ◌<◌, ◌^◌, Bool, true, false, nat_lt, nat_le, List, [], ◌∷◌, ◌++◌, length, map, replicate, slice_get, slice_set, Option, Some, None, Result, Ok, Err, OnOk, OnErr, refl, sym, ap, subst, ◌∙◌, arith}
 use Rattle.std.specs.List.{list_any}
 use Rattle.std.specs.Option.{option_map}
 use Rattle.std.proofs.lemmas.Bool.Decides.{nat_tests}
@@ -7,12 +7,13 @@ use Rattle.otp_model.proofs.JudgedLemmas.{by_test}
 use Rattle.otp_model.specs.Core.{History}
 use Rattle.otp_model.specs.Desk.{DeskState, above_of, acceptance, acceptance_by, accepts, commits, commits_of, counted, emptied, fresh_desk, fresh_slot, numbered, offered, offered_at, pending_from, pending_in, published}
 use Rattle.otp_model.specs.declared.message.Commit.{Commit}
+use Rattle.otp_model.specs.declared.change.Change.{Change}
 use Rattle.otp_model.specs.declared.message.Message.{Message}
 use Rattle.change_buffer.specs.Commits as buffer
 use Rattle.change_buffer.specs.Offers as offers
 use Rattle.change_buffer.specs.declared.feed_state.FeedState.{FeedState}
 use Rattle.change_buffer.specs.declared.offer_fault.OfferFault.{OfferFault}
-use Rattle.commit_desk.specs.Desks.{answer_of, slot_of, state_of}
+use Rattle.commit_desk.specs.Desks.{answer_of, has_pending, slot_of, state_of}
 
 -- ---- what is pending
 
@@ -52,6 +53,14 @@ some_from number (state ∷ states) some = from state.pending refl (some_from (s
     from None e rest = let later : list_any offers.is_pending states ≡ true = rw e at some in rw e (rest later)
     from (Some message) e rest = rw e ((number, message), pending_from (suc number) (map slot_of states), refl)
 
+-- whether a buffer has something pending
+pub pending_told : (states : List FeedState) → list_any offers.is_pending states ≡ has_pending (pending_in (map slot_of states))
+pending_told states = from (list_any offers.is_pending states) refl
+  where
+    from : (some : Bool) → list_any offers.is_pending states ≡ some → list_any offers.is_pending states ≡ has_pending (pending_in (map slot_of states))
+    from true e = let first = some_from 1 states e in rw (e, first.2) refl
+    from false e = rw (e, none_from 1 states e) refl
+
 pub none_pending : (states : List FeedState) → list_any offers.is_pending states ≡ false → pending_in (map slot_of states) ≡ []
 none_pending states none = none_from 1 states none
 
@@ -85,13 +94,13 @@ pub same_answer : (state : FeedState) (message : Message) → offers.answer_to s
 same_answer state message = ap (λ above. offers.counted above state.accepted) (same_above state.timestamp message.timestamp) ∙ same_counted (above_of state.timestamp message.timestamp) state.accepted
 
 -- the slot of a feed after an offer
-offered_slot : (state changed : FeedState) (message : Message) (above : Option ℕ) → above_of state.timestamp message.timestamp ≡ above
-    → OnOk (answer_of (counted above state.accepted)) (changed ≡ offers.with_message state message) → OnErr (answer_of (counted above state.accepted)) (changed ≡ state)
+offered_slot : (state changed : FeedState) (message : Message) (changes : List Change) (above : Option ℕ) → above_of state.timestamp message.timestamp ≡ above
+    → OnOk (answer_of (counted above state.accepted)) (changed ≡ offers.with_message state message changes) → OnErr (answer_of (counted above state.accepted)) (changed ≡ state)
     → slot_of changed ≡ offered message (slot_of state)
-offered_slot state changed message (Some have) e ok err = rw e (ap slot_of err)
-offered_slot state changed message None e ok err =
+offered_slot state changed message changes (Some have) e ok err = rw e (ap slot_of err)
+offered_slot state changed message changes None e ok err =
     by_test (nat_lt state.accepted (2 ^ 40))
-    (λ t. let accepted : changed ≡ offers.with_message state message = rw t at ok in rw (e, t) (ap slot_of accepted))
+    (λ t. let accepted : changed ≡ offers.with_message state message changes = rw t at ok in rw (e, t) (ap slot_of accepted))
     (λ f. let refused : changed ≡ state = rw f at err in rw (e, f) (ap slot_of refused))
 
 -- the slots once one feed was offered a message
@@ -124,11 +133,11 @@ pub record IsOffered (states now : List FeedState) (history : History) (number :
   pub state : state_of now history ≡ accepts number message (state_of states history)
   pub answered : option_map answer_of (acceptance_by number message (state_of states history)) ≡ Some answer
 
-pub is_offered : (states now : List FeedState) (history : History) (number place : ℕ) (message : Message) (answer : Result ℕ OfferFault) → number ≡ suc place → place < length states
+pub is_offered : (states now : List FeedState) (history : History) (number place : ℕ) (message : Message) (changes : List Change) (answer : Result ℕ OfferFault) → number ≡ suc place → place < length states
     → ((state : FeedState) → slice_get states place ≡ Some state → answer ≡ offers.answer_to state message)
-    → OnOk answer ((state : FeedState) → slice_get states place ≡ Some state → now ≡ slice_set states place (offers.with_message state message))
+    → OnOk answer ((state : FeedState) → slice_get states place ≡ Some state → now ≡ slice_set states place (offers.with_message state message changes))
     → OnErr answer (now ≡ states) → IsOffered states now history number message answer
-is_offered states now history number place message answer is less answered ok err =
+is_offered states now history number place message changes answer is less answered ok err =
     let found = there_is states place less in
     let state = found.0 in
     let told : answer ≡ answer_of (acceptance (slot_of state) message) = answered state found.1 ∙ same_answer state message in
@@ -138,13 +147,13 @@ is_offered states now history number place message answer is less answered ok er
     })
   where
     from : (state : FeedState) → slice_get states place ≡ Some state → (a : Result ℕ OfferFault) → a ≡ answer_of (acceptance (slot_of state) message)
-        → OnOk a ((s : FeedState) → slice_get states place ≡ Some s → now ≡ slice_set states place (offers.with_message s message)) → OnErr a (now ≡ states)
+        → OnOk a ((s : FeedState) → slice_get states place ≡ Some s → now ≡ slice_set states place (offers.with_message s message changes)) → OnErr a (now ≡ states)
         → map slot_of now ≡ offered_at place message (map slot_of states)
     from state found (Ok count) told ok err =
-        let slot = offered_slot state (offers.with_message state message) message (above_of state.timestamp message.timestamp) refl (subst (λ r. OnOk r (offers.with_message state message ≡ offers.with_message state message)) told refl) (subst (λ r. OnErr r (offers.with_message state message ≡ state)) told tt) in
-        ap (map slot_of) (ok state found) ∙ slots_offered states place state (offers.with_message state message) message found slot
+        let slot = offered_slot state (offers.with_message state message changes) message changes (above_of state.timestamp message.timestamp) refl (subst (λ r. OnOk r (offers.with_message state message changes ≡ offers.with_message state message changes)) told refl) (subst (λ r. OnErr r (offers.with_message state message changes ≡ state)) told tt) in
+        ap (map slot_of) (ok state found) ∙ slots_offered states place state (offers.with_message state message changes) message found slot
     from state found (Err why) told ok err =
-        let slot = offered_slot state state message (above_of state.timestamp message.timestamp) refl (subst (λ r. OnOk r (state ≡ offers.with_message state message)) told tt) (subst (λ r. OnErr r (state ≡ state)) told refl) in
+        let slot = offered_slot state state message changes (above_of state.timestamp message.timestamp) refl (subst (λ r. OnOk r (state ≡ offers.with_message state message changes)) told tt) (subst (λ r. OnErr r (state ≡ state)) told refl) in
         ap (map slot_of) (err ∙ sym (unchanged states place state found)) ∙ slots_offered states place state state message found slot
 
 -- ---- a commit

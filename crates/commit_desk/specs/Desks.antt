@@ -1,9 +1,10 @@
 -- What contracts see of a desk, and what its calls do.
-use Rattle.std.specs.Prelude.{◌≡◌, ℕ, ◌+◌, ◌^◌, ◌≤◌, List, [], ◌∷◌, length, map, Result, Ok, Err, if◌then◌else◌}
+use Rattle.std.specs.Prelude.{◌≡◌, ℕ, ◌+◌, ◌^◌, ◌≤◌, List, [], ◌∷◌, length, map, Bool, true, false, Result, Ok, Err, if◌then◌else◌}
 use Rattle.std.specs.List.{All, list_any}
 use mathlib.Core.List.{IsPrefix}
 use Rattle.logbook.specs.Pages.{Book}
 use Rattle.change_buffer.specs.Commits.{IsCommitted}
+use Rattle.change_buffer.specs.Forms.{AreResolved}
 use Rattle.change_buffer.specs.Offers.{is_pending}
 use Rattle.change_buffer.specs.declared.feed_state.FeedState.{FeedState}
 use Rattle.change_buffer.specs.declared.offer_fault.OfferFault.{OfferFault}
@@ -11,6 +12,7 @@ use Rattle.change_buffer.specs.declared.offer_fault.OfferFault.TheVariants as fa
 use Rattle.otp_model.specs.Core.{History}
 use Rattle.otp_model.specs.Desk.{Acceptance, Accepted, DeskState, Older, Slot, Spent}
 use Rattle.otp_model.specs.Sound.{IsSound}
+use Rattle.otp_model.specs.declared.message.Message.{Message}
 use Rattle.otp_model.specs.declared.timetable.Feed.{Feed}
 use Rattle.rt_resolve.specs.Indices.{IsIndexOf}
 use Rattle.rt_resolve.specs.declared.lookup.FeedIndex.{FeedIndex}
@@ -55,15 +57,21 @@ pub record IsCounted (states : List FeedState) (history : History) : Type 0 wher
   pub few : length history ≤ 2 ^ 40
   pub enough : length history + pending_one states ≤ accepted_in states
 
--- the feed is sound, has this index and is the writer's, the buffer has committed the history, the newest snapshot is the one after it, and
--- the counts are within their bounds
+-- the feed is sound, has this index and is the writer's, the buffer has committed the history and keeps the changes that its messages make,
+-- the newest snapshot is the one after it, and the counts are within their bounds
 pub record IsDesk (feed : Feed) (published : WriterView) (states : List FeedState) (index : FeedIndex) (newest : Snapshot) : Type 0 where
   pub sound : IsSound feed
   pub indexed : IsIndexOf feed index
   pub feed_is : feed ≡ published.feed
   pub committed : IsCommitted states published.history
+  pub resolved : AreResolved feed states
   pub stands : IsSnapshotOf newest feed published.history
   pub counted : IsCounted states published.history
+
+-- whether there are any of these messages
+abbrev pub has_pending : List (ℕ × Message) → Bool
+has_pending [] = false
+has_pending (message ∷ messages) = true
 
 -- an offer's answer
 abbrev pub answer_of : Acceptance → Result ℕ OfferFault

@@ -2,27 +2,28 @@ ghost use Rattle.std.specs.Prelude.{◌≡◌, ◌≢◌, ◌+◌, ◌<◌, ◌�
 ghost use Rattle.std.specs.Arc.{arc_value};
 ghost use Rattle.std.specs.Option.{option_map};
 ghost use Rattle.otp_model.specs.Desk.{acceptance_by, accepts, commits, fresh_desk, pending_in};
+ghost use Rattle.otp_model.specs.Resolution.{AreChangesOf, ignored};
 ghost use Rattle.otp_model.specs.Schedule.{sched};
 ghost use Rattle.otp_model.specs.Sound.{IsSound};
 ghost use Rattle.commit_history.specs.Entries.{IsSnapshotOf};
 ghost use Rattle.commit_history.specs.Views.{fresh_pass};
 ghost use Rattle.commit_desk.specs.Costs.{IsCostWithin};
-ghost use Rattle.commit_desk.specs.Desks.{answer_of, writer_of};
+ghost use Rattle.commit_desk.specs.Desks.{answer_of, has_pending, writer_of};
 ghost use Rattle.commit_desk.specs.Dones.{IsDone};
 
 use crate::done::Done;
 use change_buffer::{Buffer, OfferFault, Prepared};
 use commit_history::{Note, Pass, Writer};
-use otp_base::{Memory, Steps};
-use otp_model::{Commit, Feed, Message};
-use rt_resolve::{FeedIndex, Lookup};
+use otp_base::{List, Memory, Steps};
+use otp_model::{Change, Commit, Feed, Message};
+use rt_resolve::{FeedIndex, Lookup, Resolved};
 use snapshot_store::Snapshot;
 use std::alloc::Global;
 use std::marker::Model;
 use std::sync::ledger::Ledger;
 use std::sync::{Arc, Wait};
 
-/// What a desk keeps beside its writer: the messages, the feed with the index of its ids, and the snapshot after what is published.
+/// What a desk keeps beside its writer: the messages with their changes, the feed with the index of its ids, and the snapshot after what is published.
 #[derive(Drop)]
 pub struct Current {
     pub buffer: Buffer,
@@ -111,20 +112,36 @@ impl DeskOf<Writer, Current> {
         Ok((desk, passes))
     }
 
-    /// Makes a message the pending one of its real-time feed, in place of an earlier pending one, and answers how many messages that
-    /// feed has accepted with it. It takes no memory.
+    /// What a message says of the runs of the feed: the changes that it makes, to be handed to `accept` with it, and how many of its
+    /// entities are ignored for each of the nine reasons.
+    pub fn resolve(&self, alloc: Global, message: &Message) -> Result<Resolved, Memory>
+        ensures changes { IfOk result (λ resolved. AreChangesOf self.now.feed message.now resolved.changes) }
+        ensures ignored { IfOk result (λ resolved. resolved.ignored ≡ ignored self.now.feed message.now) }
+    {
+        let lookup = Lookup::of(&self.current.feed, &self.current.index);
+        lookup.resolve(alloc, message)
+    }
+
+    /// Makes a message, with the changes that `resolve` told of it, the pending one of its real-time feed, in place of an earlier
+    /// pending one, and answers how many messages that feed has accepted with it. It takes no memory.
     ///
     /// # Errors
     ///
     /// `Older` exactly where the message has a timestamp below the kept one of its feed, which is `have`; else `CountSpent` exactly
     /// where the feed has accepted 2^40 messages. An `Err` changes nothing.
-    pub fn accept(&mut self, feed_no: u32, message: Message) -> Result<u64, OfferFault>
+    pub fn accept(
+        &mut self,
+        feed_no: u32,
+        message: Message,
+        changes: List<Change>,
+    ) -> Result<u64, OfferFault>
         requires first { 1 ≤ feed_no }
         requires last { feed_no ≤ length self.old.state.slots }
+        requires changes { AreChangesOf self.old.feed message changes }
         ensures state { self.new ≡ record self.old { state = accepts feed_no message self.old.state } }
         ensures answer { option_map answer_of (acceptance_by feed_no message self.old.state) ≡ Some result }
     {
-        self.current.buffer.offer(feed_no, message)
+        self.current.buffer.offer(feed_no, message, changes)
     }
 
     /// Publishes what is pending as one commit. It may wait for readers. Each call that is written to a lane counts one step.
@@ -169,8 +186,7 @@ impl DeskOf<Writer, Current> {
         ensures stands { IfOk result (λ next. IsSnapshotOf (arc_value next.snapshot) self.now.feed (self.now.state.history ++ next.commit ∷ [])) }
         ensures most { IsCostWithin (sched self.now.feed self.now.state.history) (sched self.now.feed (commits self.now.state).history) steps.old steps.new }
     {
-        let lookup = Lookup::of(&self.current.feed, &self.current.index);
-        let Prepared { commit, changes } = self.current.buffer.prepare_with(alloc, &lookup)?;
+        let Prepared { commit, changes } = self.current.buffer.prepare(alloc, &self.current.feed)?;
         let snapshot = self
             .current
             .newest
@@ -179,6 +195,13 @@ impl DeskOf<Writer, Current> {
             commit,
             snapshot: Arc::new(alloc, snapshot)?,
         })
+    }
+
+    /// Whether something is pending.
+    pub fn is_pending(&self) -> bool
+        ensures { result ≡ has_pending (pending_in self.now.state.slots) }
+    {
+        self.current.buffer.pending()
     }
 
     /// How many commits were published.

@@ -36,11 +36,14 @@ pub fn commit<R: Wait, L: Ledger>(
 }
 
 /// Offers a message to the one real-time feed.
-pub fn accept(desk: &mut Desk, message: Message) -> Result<u64, DeskFault>
+pub fn accept(alloc: Global, desk: &mut Desk, message: Message) -> Result<u64, DeskFault>
     requires one { length desk.old.state.slots ≡ 1 }
     ensures one { length desk.new.state.slots ≡ 1 }
 {
-    desk.accept(1, message)
+    let Ok(resolved) = desk.resolve(alloc, &message) else {
+        return Err(DeskFault::Memory);
+    };
+    desk.accept(1, message, resolved.changes)
 }
 
 /// A message that says nothing, of this second.
@@ -82,7 +85,7 @@ fn commits_what_is_pending(rt: HostRuntime) -> Result<(), Fail> {
     let (mut desk, _passes, _edges) = open_desk(&rt, alloc)?;
     let done = commit::<HostRuntime, Brand>(&rt, alloc, &mut desk, Blank::new(1))?;
     assert_eq!(rt; told(&done), (false, 0));
-    assert_eq!(rt; accept(&mut desk, silent(alloc, None)), Ok(1));
+    assert_eq!(rt; accept(alloc, &mut desk, silent(alloc, None)), Ok(1));
     let done = commit::<HostRuntime, Brand>(&rt, alloc, &mut desk, Blank::new(1))?;
     assert_eq!(rt; told(&done), (true, 1));
     let done = commit::<HostRuntime, Brand>(&rt, alloc, &mut desk, Blank::new(1))?;
@@ -105,7 +108,7 @@ fn refuses_older_messages(rt: HostRuntime) -> Result<(), Fail> {
         (Some(101), Ok(4)),
     ];
     for (timestamp, answer) in offers {
-        assert_eq!(rt; accept(&mut desk, silent(alloc, timestamp)), answer);
+        assert_eq!(rt; accept(alloc, &mut desk, silent(alloc, timestamp)), answer);
     }
     desk.end(&rt);
     Ok(())

@@ -81,7 +81,7 @@ fn commit_all<R: Wait>(
     for bytes in messages() {
         count = count.wrapping_add(200);
         wait_for(taken, count);
-        accept(desk, message(alloc, bytes)?)?;
+        accept(alloc, desk, message(alloc, bytes)?)?;
         commit::<R, Brand>(rt, alloc, desk, Blank::new(1))?;
     }
     Ok(())

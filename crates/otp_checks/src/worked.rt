@@ -60,6 +60,7 @@ fn request() -> Request {
         page: 20,
         cursor: None,
         at_least: 0,
+        pin: false,
     }
 }
 

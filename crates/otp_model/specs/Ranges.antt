@@ -25,9 +25,15 @@ IsLegInRange (Ride name board alight) = IsTime board.departure × IsTime alight.
 abbrev pub IsCallInRange : Call → Type 0
 IsCallInRange call = IsTime call.arrival × IsTime call.departure
 
--- a run whose times are in range, and that arrives at no call before it left an earlier one
+-- the call is left no earlier than it is arrived at
+abbrev pub IsLeftInOrder : Call → Type 0
+IsLeftInOrder call = call.arrival ≤ℤ call.departure
+
+-- a run whose times are in range, and that leaves no call before it arrived there, and arrives at none before it left an
+-- earlier one
 pub record IsTimely (run : Run) : Type 0 where
   pub in_range : All IsCallInRange run.calls
+  pub along : All IsLeftInOrder run.calls
   pub forward : AllPairs (λ earlier later. earlier.departure ≤ℤ later.arrival) run.calls
 
 -- the numbers of a request are in range

@@ -80,7 +80,8 @@ pub struct Cursor {
 
 /// What is asked for: journeys that depart from `time` on for `window` seconds, with at most `rides`
 /// rides (1 to 8) and `slack` seconds to spare at each change. A second on foot costs `walk_points`
-/// (100 to 2,000) in place of 100, and each boarding costs `board_points` (up to 1,000,000).
+/// (100 to 2,000) in place of 100, and each boarding costs `board_points` (up to 1,000,000). A request with `pin`
+/// asks for a page at its cursor's commit, where a connection still keeps it.
 #[derive(Clone, Copy, Debug, PartialEq, Eq)]
 pub struct Request {
     pub from: Place,
@@ -94,6 +95,7 @@ pub struct Request {
     pub page: u32,
     pub cursor: Option<Cursor>,
     pub at_least: u64,
+    pub pin: bool,
 }
 
 /// A page of the best journeys, whether more follow, and the seconds of the direct walk if there is one.

@@ -3,7 +3,7 @@ ghost use Rattle.std.specs.Int.{int_div_euclid};
 ghost use Rattle.std.specs.List.{All, AllPairs};
 ghost use Rattle.otp_model.specs.Limits.{most_latitude, most_longitude, most_plane, most_scale};
 ghost use Rattle.otp_model.specs.Plane.{IsNameable, IsPlatform, IsStation, point_at, point_of};
-ghost use Rattle.otp_model.specs.Ranges.{CanWalk, IsCallInRange, IsTime, IsTimely};
+ghost use Rattle.otp_model.specs.Ranges.{CanWalk, IsCallInRange, IsLeftInOrder, IsTime, IsTimely};
 ghost use Rattle.otp_model.specs.Rows.{IsWithin};
 
 use crate::run_name::RunName;
@@ -134,11 +134,13 @@ pub struct Run {
 }
 
 impl Run {
-    /// Whether its times are from -2^42 to 2^42, and it arrives at no call before it left an earlier one.
+    /// Whether its times are from -2^42 to 2^42, it leaves no call before it arrived there, and arrives at none before it left
+    /// an earlier one.
     pub fn is_timely(&self) -> bool
         ensures { IsTrue result ↔ IsTimely self.now }
     {
-        are_in_range(self.calls.as_slice()) && are_forward(self.calls.as_slice())
+        let calls = self.calls.as_slice();
+        are_in_range(calls) && are_left_in_order(calls) && are_forward(calls)
     }
 }
 
@@ -152,6 +154,19 @@ fn is_in_range(call: &Call) -> bool
     ensures { IsTrue result ↔ IsCallInRange call.now }
 {
     is_time(call.arrival) && is_time(call.departure)
+}
+
+fn are_left_in_order(calls: &[Call]) -> bool
+    ensures { IsTrue result ↔ All IsLeftInOrder calls.now }
+{
+    calls.iter().all(is_left_in_order)
+}
+
+/// Whether the call is left no earlier than it is arrived at.
+fn is_left_in_order(call: &Call) -> bool
+    ensures { IsTrue result ↔ IsLeftInOrder call.now }
+{
+    call.arrival <= call.departure
 }
 
 /// The greatest time, and less 0 the least one.

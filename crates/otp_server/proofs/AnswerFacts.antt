@@ -2,13 +2,14 @@
 use Rattle.std.proofs.Common.{◌≡◌, inl, inr, ℕ, List, Option, Some, None, IsSomeAnd, refl, subst, sym}
 use Rattle.command_words.specs.Commands.{IsTask, Task, task_of}
 use Rattle.command_words.specs.Messages.{all_asked}
-use Rattle.command_words.specs.Commands.Task.{check, plan}
+use Rattle.command_words.specs.Commands.Task.{check, plan, serve}
 use Rattle.command_words.specs.declared.command.Command.TheVariants as commands
+use Rattle.command_words.specs.declared.serving.Serving.{Serving}
 use Rattle.otp_base.specs.declared.folder.FileEntry.{FileEntry}
 use Rattle.otp_model.specs.declared.options.Options.{Options}
 use Rattle.otp_server.specs.Commands.{Checks, Fails, IsFeedFault, IsPlanFault, Plans}
 use Rattle.otp_server.specs.Lines.{line_of, status_of}
-use Rattle.otp_server.specs.Offline.{Answers, Finishes, IsDone, IsFailed, IsRefused, IsTold}
+use Rattle.otp_server.specs.Offline.{Answers, Finishes, IsDone, IsFailed, IsNoneHere, IsRefused, IsTold}
 use Rattle.otp_server.specs.declared.refusal.Refusal.{Refusal}
 use Rattle.otp_server.specs.declared.refusal.Refusal.TheVariants as refusal
 use Rattle.otp_server.specs.declared.status.Status.{Status}
@@ -20,6 +21,7 @@ pub check_done : (files : Option (List FileEntry)) (words : List (List ℕ)) (on
     → task_of words ≡ read → IsSomeAnd read (IsTask (commands.Check on options)) → Checks files on.now options text → IsDone files words text
 check_done files words on options text None e m h = absurd m
 check_done files words on options text (Some (plan path query messages asked)) e m h = absurd m
+check_done files words on options text (Some (serve path asked serving)) e m h = absurd m
 check_done files words on options text (Some (check path asked)) e m h = record {
   task = check path asked;
   options = options;
@@ -31,6 +33,7 @@ pub plan_done : (files : Option (List FileEntry)) (words : List (List ℕ)) (on 
     → task_of words ≡ read → IsSomeAnd read (IsTask (commands.Plan on of told options)) → Plans files on.now options (all_asked told.items) of.now text → IsDone files words text
 plan_done files words on of told options text None e m h = absurd m
 plan_done files words on of told options text (Some (check path asked)) e m h = absurd m
+plan_done files words on of told options text (Some (serve path asked serving)) e m h = absurd m
 plan_done files words on of told options text (Some (plan path query messages asked)) e m h = record {
   task = plan path query messages asked;
   options = options;
@@ -42,6 +45,7 @@ plan_done files words on of told options text (Some (plan path query messages as
 no_words : (files : Option (List FileEntry)) (task : Task) (options : Options) → Fails files task options refusal.Words → ⊥
 no_words files (check path asked) options h = h
 no_words files (plan path query messages asked) options h = h
+no_words files (serve path asked serving) options h = h
 
 failed_refused : (files : Option (List FileEntry)) (words : List (List ℕ)) (why : Refusal) → IsFailed files words why → IsRefused files words why
 failed_refused files words refusal.Words h = absurd (no_words files h.task h.options h.fails)
@@ -55,6 +59,7 @@ pub check_refused : (files : Option (List FileEntry)) (words : List (List ℕ)) 
     → task_of words ≡ read → IsSomeAnd read (IsTask (commands.Check on options)) → IsFeedFault files on.now options why → IsRefused files words why
 check_refused files words on options why None e m h = absurd m
 check_refused files words on options why (Some (plan path query messages asked)) e m h = absurd m
+check_refused files words on options why (Some (serve path asked serving)) e m h = absurd m
 check_refused files words on options why (Some (check path asked)) e m h = failed_refused files words why (record {
   task = check path asked;
   options = options;
@@ -66,6 +71,7 @@ pub plan_refused : (files : Option (List FileEntry)) (words : List (List ℕ)) (
     → task_of words ≡ read → IsSomeAnd read (IsTask (commands.Plan on of told options)) → IsPlanFault files on.now options (all_asked told.items) of.now why → IsRefused files words why
 plan_refused files words on of told options why None e m h = absurd m
 plan_refused files words on of told options why (Some (check path asked)) e m h = absurd m
+plan_refused files words on of told options why (Some (serve path asked serving)) e m h = absurd m
 plan_refused files words on of told options why (Some (plan path query messages asked)) e m h = failed_refused files words why (record {
   task = plan path query messages asked;
   options = options;
@@ -73,6 +79,15 @@ plan_refused files words on of told options why (Some (plan path query messages 
   fails = subst (λ p. IsPlanFault files p options messages query why) m.0
       (subst (λ q. IsPlanFault files on.now options messages q why) m.1 (subst (λ ms. IsPlanFault files on.now options ms of.now why) m.2 h));
 })
+
+pub serve_refused : (read : Option Task) (on : _) (options : Options) (serving : Serving) → IsSomeAnd read (IsTask (commands.Serve on options serving)) → IsNoneHere read
+serve_refused None on options serving m = tt
+serve_refused (Some (check path asked)) on options serving m = absurd m
+serve_refused (Some (plan path query messages asked)) on options serving m = absurd m
+serve_refused (Some (serve path asked wanted)) on options serving m = tt
+
+pub none_refused : (read : Option Task) → read ≡ None → IsNoneHere read
+none_refused read e = rw e tt
 
 -- ---- what is written
 

@@ -9,6 +9,7 @@ use Rattle.std.proofs.lemmas.Bool.Decides.{eqb_tells}
 use Rattle.std.proofs.lemmas.List.Sorted.{IsPermutation-append, IsPermutation-refl}
 use Rattle.std.proofs.lemmas.Option.{slice_get-get_or}
 use Rattle.change_buffer.specs.Commits.{IsCommitted, pending_from, pending_of}
+use Rattle.change_buffer.specs.Forms.{AreResolved}
 use Rattle.change_buffer.specs.Offers.{above_of, answer_to, counted, fresh, settled, with_message}
 use Rattle.change_buffer.specs.declared.feed_state.FeedState.{FeedState}
 use Rattle.change_buffer.specs.declared.offer_fault.OfferFault.{OfferFault}
@@ -54,16 +55,16 @@ no_pending number told (state ∷ states) all =
     let rest = no_pending (suc number) told states (λ k d less. all (suc k) d (omega (arith, less))) in
     rw (first, rest) refl
 
-one_pending : (number place : ℕ) (told : List Told) (states : List FeedState) (state : FeedState) (message : Message) → place < length states → All (IsSettled told) states
-    → pending_from number (set states place (with_message state message)) ≡ (number + place, message) ∷ []
-one_pending number place told [] state message less all = absurd (omega (arith, less))
-one_pending number zero told (first ∷ states) state message less all =
+one_pending : (number place : ℕ) (told : List Told) (states : List FeedState) (state : FeedState) (message : Message) (changes : List Change) → place < length states → All (IsSettled told) states
+    → pending_from number (set states place (with_message state message changes)) ≡ (number + place, message) ∷ []
+one_pending number place told [] state message changes less all = absurd (omega (arith, less))
+one_pending number zero told (first ∷ states) state message changes less all =
     let rest = no_pending (suc number) told states (λ k d l. all (suc k) d (omega (arith, l))) in
     let at : number + 0 ≡ number = omega arith in
     rw (rest, at) refl
-one_pending number (suc place) told (first ∷ states) state message less all =
+one_pending number (suc place) told (first ∷ states) state message changes less all =
     let none : first.pending ≡ None = (all 0 first (omega arith)).none in
-    let rest = one_pending (suc number) place told states state message (omega (arith, less)) (λ k d l. all (suc k) d (omega (arith, l))) in
+    let rest = one_pending (suc number) place told states state message changes (omega (arith, less)) (λ k d l. all (suc k) d (omega (arith, l))) in
     let at : suc number + place ≡ number + suc place = omega arith in
     rw (none, rest, at) refl
 
@@ -118,23 +119,23 @@ other_eqb a b h = elim (eqb_tells (suc a) (suc b)) [
 ]
 
 -- the state of a feed that is looked up, where a message was offered to some feed and what is pending was settled
-offered_at : (states : List FeedState) (place k : ℕ) (state d : FeedState) (message : Message) → place < length states → state ≡ get_or states place d → k < length states
-    → (get_or (map settled (set states place (with_message state message))) k d).timestamp ≡ (if place == k then first_of message.timestamp state.timestamp else (get_or states k d).timestamp)
-offered_at states place k state d message less is within =
-    let offered = set states place (with_message state message) in
-    let one : get_or (map settled offered) k d ≡ settled (get_or offered k d) = get_or-map settled offered k d d (omega (arith, within, length-set states place (with_message state message))) in
+offered_at : (states : List FeedState) (place k : ℕ) (state d : FeedState) (message : Message) (changes : List Change) → place < length states → state ≡ get_or states place d → k < length states
+    → (get_or (map settled (set states place (with_message state message changes))) k d).timestamp ≡ (if place == k then first_of message.timestamp state.timestamp else (get_or states k d).timestamp)
+offered_at states place k state d message changes less is within =
+    let offered = set states place (with_message state message changes) in
+    let one : get_or (map settled offered) k d ≡ settled (get_or offered k d) = get_or-map settled offered k d d (omega (arith, within, length-set states place (with_message state message changes))) in
     ap (λ (s : FeedState). s.timestamp) one ∙ from (place == k) refl
   where
     from : (b : Bool) → (place == k) ≡ b
-        → (settled (get_or (set states place (with_message state message)) k d)).timestamp ≡ (if b then first_of message.timestamp state.timestamp else (get_or states k d).timestamp)
+        → (settled (get_or (set states place (with_message state message changes)) k d)).timestamp ≡ (if b then first_of message.timestamp state.timestamp else (get_or states k d).timestamp)
     from true e =
         let at : place ≡ k = eqb-true place k e in
-        ap (λ (s : FeedState). s.timestamp) (subst (λ n. get_or (set states place (with_message state message)) n d ≡ with_message state message) at (get_or-set_same states place (with_message state message) d less))
+        ap (λ (s : FeedState). s.timestamp) (subst (λ n. get_or (set states place (with_message state message changes)) n d ≡ with_message state message changes) at (get_or-set_same states place (with_message state message changes) d less))
     from false e =
         let apart : k ≢ place = λ h. true≢false (sym (same_eqb place k (sym h)) ∙ e) in
-        ap (λ (s : FeedState). s.timestamp) (get_or-set_other states place k (with_message state message) d apart)
+        ap (λ (s : FeedState). s.timestamp) (get_or-set_other states place k (with_message state message changes) d apart)
 
-module _ (feed : Feed) (feeds number : ℕ) (told : List Told) (message : Message) (kept next : Committed) (state : FeedState)
+module _ (feed : Feed) (feeds number : ℕ) (told : List Told) (message : Message) (changes : List Change) (kept next : Committed) (state : FeedState)
     (after : IsAfter feed feeds told kept) (first : 1 ≤ number) (last : number ≤ length kept.buffer)
     (state_is : slice_get kept.buffer (number - 1) ≡ Some state) where
   abbrev place : ℕ
@@ -156,16 +157,16 @@ module _ (feed : Feed) (feeds number : ℕ) (told : List Told) (message : Messag
   own_few = subst (λ (s : FeedState). s.accepted ≤ length told) (sym own) (after.settled place state less).few
 
   abbrev offered : List FeedState
-  offered = slice_set kept.buffer (number - 1) (with_message state message)
+  offered = slice_set kept.buffer (number - 1) (with_message state message changes)
 
   -- what is pending then
   pub pending_is : pending_of offered ≡ (number, message) ∷ []
-  pending_is = one_pending 1 place told kept.buffer state message less after.settled ∙ (let n : 1 + place ≡ number = omega (arith, number_is) in ap (λ m. (m, message) ∷ []) n)
+  pending_is = one_pending 1 place told kept.buffer state message changes less after.settled ∙ (let n : 1 + place ≡ number = omega (arith, number_is) in ap (λ m. (m, message) ∷ []) n)
 
   next_settled : All (IsSettled (told ++ (number, message) ∷ [])) (map settled offered)
   next_settled =
       All-map (IsSettled (told ++ (number, message) ∷ [])) settled offered
-      (All-set (λ s. IsSettled (told ++ (number, message) ∷ []) (settled s)) kept.buffer place (with_message state message)
+      (All-set (λ s. IsSettled (told ++ (number, message) ∷ []) (settled s)) kept.buffer place (with_message state message changes)
       (record { few = grown own_few; none = refl })
       (All-weaker (IsSettled told) (λ s. IsSettled (told ++ (number, message) ∷ []) (settled s)) (λ s h. record { few = still h.few; none = refl }) kept.buffer after.settled))
     where
@@ -180,9 +181,9 @@ module _ (feed : Feed) (feeds number : ℕ) (told : List Told) (message : Messag
 
   next_timestamps : (k : ℕ) (d : FeedState) → k < length (map settled offered) → (get_or (map settled offered) k d).timestamp ≡ timestamp_of (told ++ (number, message) ∷ []) (suc k)
   next_timestamps k d within =
-      let short : k < length kept.buffer = omega (arith, within, length-map offered settled, length-set kept.buffer place (with_message state message)) in
+      let short : k < length kept.buffer = omega (arith, within, length-map offered settled, length-set kept.buffer place (with_message state message changes)) in
       let own_d : state ≡ get_or kept.buffer place d = (let same : ◌≡◌ {A = Option FeedState} (Some state) (Some (get_or kept.buffer place d)) = sym state_is ∙ slice_get-get_or kept.buffer place d less in cc) in
-      offered_at kept.buffer place k state d message less own_d short
+      offered_at kept.buffer place k state d message changes less own_d short
       ∙ from (place == k) refl short
       ∙ sym (timestamp_more (suc k) None told (number, message))
     where
@@ -202,12 +203,13 @@ module _ (feed : Feed) (feeds number : ℕ) (told : List Told) (message : Messag
       → ((history : List Commit) (commit : Commit) → commit.messages ≡ pending_of offered → IsCommitted offered history → IsCommitted next.buffer (history ++ commit ∷ []))
       → ((history : List Commit) (commit : Commit) → commit.messages ≡ pending_of offered → IsCommitted offered history → IsPermutation (sched feed history) (runs_of kept.snapshot)
       → IsPermutation (sched feed (history ++ commit ∷ [])) (runs_of next.snapshot))
-      → IsCommitted offered (history_of told) → IsAfter feed feeds (told ++ (number, message) ∷ []) next
-  next_after buffer_is committed stands same =
+      → IsCommitted offered (history_of told) → AreResolved feed next.buffer → IsAfter feed feeds (told ++ (number, message) ∷ []) next
+  next_after buffer_is committed stands same resolved =
       let grown : history_of (told ++ (number, message) ∷ []) ≡ history_of told ++ commit_of (number, message) ∷ [] = map_push commit_of told (number, message) in
       record {
-        feeds_are = ap length buffer_is ∙ length-map offered settled ∙ length-set kept.buffer place (with_message state message) ∙ after.feeds_are;
+        feeds_are = ap length buffer_is ∙ length-map offered settled ∙ length-set kept.buffer place (with_message state message changes) ∙ after.feeds_are;
         committed = subst (IsCommitted next.buffer) (sym grown) (committed (history_of told) (commit_of (number, message)) (sym pending_is) same);
+        resolved = resolved;
         settled = subst (All (IsSettled (told ++ (number, message) ∷ []))) (sym buffer_is) next_settled;
         timestamps = subst (λ (states : List FeedState). (k : ℕ) (d : FeedState) → k < length states → (get_or states k d).timestamp ≡ timestamp_of (told ++ (number, message) ∷ []) (suc k))
             (sym buffer_is) next_timestamps;
@@ -234,11 +236,12 @@ pub base_sched : (feed : Feed) → sched feed [] ≡ feed.runs
 base_sched feed = rw (all_base feed feed.runs, no_added feed) (append-nil feed.runs)
 
 -- a buffer of which nothing was accepted, and the snapshot of the feed's runs
-pub fresh_after : (feed : Feed) (feeds : ℕ) (kept : Committed) → kept.buffer ≡ replicate feeds fresh → IsCommitted kept.buffer [] → IsPermutation feed.runs (runs_of kept.snapshot) → IsAfter feed feeds [] kept
+pub fresh_after : (feed : Feed) (feeds : ℕ) (kept : Committed) → kept.buffer ≡ replicate feeds fresh → IsCommitted kept.buffer [] → AreResolved feed kept.buffer → IsPermutation feed.runs (runs_of kept.snapshot) → IsAfter feed feeds [] kept
 unfolding timestamp_from
-fresh_after feed feeds kept is committed stands = record {
+fresh_after feed feeds kept is committed resolved stands = record {
   feeds_are = ap length is ∙ length-replicate feeds fresh;
   committed = committed;
+  resolved = resolved;
   settled = subst (All (IsSettled [])) (sym is) (λ k d less. rw (get_or-replicate feeds k fresh d (subst (λ n. k < n) (length-replicate feeds fresh) less)) (record { few = omega arith; none = refl }));
   timestamps = subst (λ (states : List FeedState). (k : ℕ) (d : FeedState) → k < length states → (get_or states k d).timestamp ≡ None) (sym is)
       (λ k d less. ap (λ (s : FeedState). s.timestamp) (get_or-replicate feeds k fresh d (subst (λ n. k < n) (length-replicate feeds fresh) less)));
@@ -255,6 +258,6 @@ some_at (x ∷ xs) (suc i) less = some_at xs i (omega (arith, less))
 pub place_within : (number : ℕ) (states : List FeedState) → 1 ≤ number → number ≤ length states → number - 1 < length states
 place_within number states first last = omega (arith, first, last)
 
-pub all_on : {X E : Type 0} {A B C D : Type 0} (r : Result X E) → OnOk r A → OnOk r B → OnOk r C → (A → B → C → D) → OnOk r D
-all_on (Ok x) a b c f = f a b c
-all_on (Err e) a b c f = tt
+pub all_on : {X E : Type 0} {A B C D F : Type 0} (r : Result X E) → OnOk r A → OnOk r B → OnOk r C → OnOk r D → (A → B → C → D → F) → OnOk r F
+all_on (Ok x) a b c d f = f a b c d
+all_on (Err e) a b c d f = tt

@@ -1,4 +1,3 @@
-pub mod ValueFacts
 pub mod AnswerFacts
 pub mod CommittedFacts
 pub mod TakenFacts

@@ -1,7 +1,7 @@
 -- What the commands write over a folder, and why one is not carried out.
 use Rattle.std.specs.Prelude.{◌≡◌, ℕ, List, length, IfSome, Option, Result, Ok, Err}
 use Rattle.command_words.specs.Commands.{Task}
-use Rattle.command_words.specs.Commands.Task.{check, plan}
+use Rattle.command_words.specs.Commands.Task.{check, plan, serve}
 use Rattle.command_words.specs.Messages.{AskedMessage}
 use Rattle.command_words.specs.Values.{Asked}
 use Rattle.feed_load.specs.declared.loading.Loaded.{Loaded}
@@ -12,8 +12,9 @@ use Rattle.otp_base.specs.declared.folder.FileEntry.{FileEntry}
 use Rattle.otp_model.specs.declared.feed_fault.FeedFault.{FeedFault}
 use Rattle.query_form.specs.declared.fault.TargetFault.{TargetFault}
 use Rattle.otp_model.specs.declared.options.Options.{Options}
+use Rattle.reply_bodies.specs.Plans.{IsSearchable}
 use Rattle.otp_server.specs.Lines.{counts_line}
-use Rattle.otp_server.specs.Reply.{IsHeldUp, IsPlanned, IsQueryFault, IsSearchable}
+use Rattle.otp_server.specs.Reply.{IsHeldUp, IsPlanned, IsQueryFault}
 use Rattle.otp_server.specs.declared.refusal.Untaken.{Untaken}
 use Rattle.otp_server.specs.declared.refusal.Refusal.{Refusal}
 use Rattle.otp_server.specs.declared.refusal.Refusal.TheVariants as refusal
@@ -77,13 +78,16 @@ IsPlanFault files path options messages query refusal.Memory = Unit {0}
 abbrev pub asked_of : Task → Asked
 asked_of (check path asked) = asked
 asked_of (plan path query messages asked) = asked
+asked_of (serve path asked serving) = asked
 
--- what a task writes
+-- what a task writes over a folder alone, as `serve` doesn't
 abbrev pub Writes : Option (List FileEntry) → Task → Options → List ℕ → Type 0
 Writes files (check path asked) options text = Checks files path options text
 Writes files (plan path query messages asked) options text = Plans files path options messages query text
+Writes files (serve path asked serving) options text = ⊥
 
 -- why a task is not carried out
 abbrev pub Fails : Option (List FileEntry) → Task → Options → Refusal → Type 0
 Fails files (check path asked) options why = IsFeedFault files path options why
 Fails files (plan path query messages asked) options why = IsPlanFault files path options messages query why
+Fails files (serve path asked serving) options why = ⊥

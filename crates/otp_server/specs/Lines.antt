@@ -1,17 +1,13 @@
 -- The lines of the program and its exit statuses. Their form is this project's own; the files are those of the
 -- GTFS Schedule reference, "Dataset Files".
 use Rattle.std.specs.Prelude.{ℕ, ◌==◌, List, [], ◌∷◌, ◌++◌, Option, Some, None, codes, decimal, if◌then◌else◌}
-use Rattle.pb_wire.specs.declared.field.WireFault.TheVariants as wire
-use Rattle.query_form.specs.declared.fault.QueryFault.{QueryFault}
-use Rattle.query_form.specs.declared.fault.QueryFault.TheVariants as fault
 use Rattle.query_form.specs.declared.fault.TargetFault.{TargetFault}
 use Rattle.query_form.specs.declared.fault.TargetFault.TheVariants as target
-use Rattle.rt_reader.specs.declared.fault.MessageFault.{MessageFault}
-use Rattle.rt_reader.specs.declared.fault.MessageFault.TheVariants as message
 use Rattle.otp_model.specs.FeedFaults.{file_name}
 use Rattle.otp_model.specs.declared.feed_fault.FeedFault.{FeedFault}
 use Rattle.otp_model.specs.declared.feed_fault.FeedFault.TheVariants as feed
 use Rattle.otp_model.specs.declared.feed_fault.FeedFile.TheVariants as file
+use Rattle.reply_bodies.specs.Names.{cause_name, fault_name, fault_offset}
 use Rattle.otp_server.specs.declared.refusal.Refusal.{Refusal}
 use Rattle.otp_server.specs.declared.refusal.Refusal.TheVariants as refusal
 use Rattle.otp_server.specs.declared.refusal.Untaken.{Untaken}
@@ -62,12 +58,6 @@ abbrev pub or_dash : List ℕ → List ℕ
 or_dash [] = codes "-"
 or_dash (b ∷ bs) = b ∷ bs
 
-abbrev pub cause_name : QueryFault → List ℕ
-cause_name fault.Missing = codes "missing"
-cause_name fault.Bad = codes "bad"
-cause_name fault.Twice = codes "twice"
-cause_name fault.UnknownPlace = codes "unknown"
-
 -- `feed CAUSE FILE ROW COLUMN`
 abbrev pub feed_line : ℕ → List ℕ → ℕ → List ℕ → List ℕ
 feed_line cause file row column =
@@ -89,33 +79,6 @@ request_refusal target.FeedNumber = []
 request_refusal target.Method = []
 request_refusal (target.Query cause parameter) = request_line (cause_name cause) parameter
 request_refusal target.Memory = []
-
-abbrev pub fault_name : MessageFault → List ℕ
-fault_name (message.Wire (wire.Cut at)) = codes "cut"
-fault_name (message.Wire (wire.LongVarint at)) = codes "varint"
-fault_name (message.Wire (wire.Group at)) = codes "group"
-fault_name (message.Wire (wire.ZeroField at)) = codes "zero"
-fault_name (message.Wire wire.Memory) = codes "memory"
-fault_name message.NoHeader = codes "header"
-fault_name message.Differential = codes "differential"
-fault_name (message.NotText at) = codes "text"
-fault_name (message.Repeated at) = codes "repeated"
-fault_name (message.WrongType at) = codes "type"
-fault_name message.Memory = codes "memory"
-
--- where in the body a fault stands, if it has a place
-abbrev pub fault_offset : MessageFault → Option ℕ
-fault_offset (message.Wire (wire.Cut at)) = Some at
-fault_offset (message.Wire (wire.LongVarint at)) = Some at
-fault_offset (message.Wire (wire.Group at)) = Some at
-fault_offset (message.Wire (wire.ZeroField at)) = Some at
-fault_offset (message.Wire wire.Memory) = None
-fault_offset message.NoHeader = None
-fault_offset message.Differential = None
-fault_offset (message.NotText at) = Some at
-fault_offset (message.Repeated at) = Some at
-fault_offset (message.WrongType at) = Some at
-fault_offset message.Memory = None
 
 abbrev pub untaken_name : Untaken → List ℕ
 untaken_name untaken.Missing = codes "missing"

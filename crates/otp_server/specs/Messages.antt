@@ -5,6 +5,7 @@ use Rattle.std.specs.Prelude.{◌≡◌, ℕ, suc, ◌<◌, ◌≤◌, ◌^◌, 
 use Rattle.std.specs.List.{All}
 use Rattle.std.specs.List.Sorted.{IsPermutation}
 use Rattle.change_buffer.specs.Commits.{IsCommitted}
+use Rattle.change_buffer.specs.Forms.{AreResolved}
 use Rattle.change_buffer.specs.Offers.{above_of}
 use Rattle.change_buffer.specs.declared.feed_state.FeedState.{FeedState}
 use Rattle.command_words.specs.Messages.{AskedMessage, asked_by}
@@ -96,6 +97,7 @@ pub record IsSettled (told : List Told) (state : FeedState) : Type 0 where
 pub record IsAfter (feed : Feed) (feeds : ℕ) (told : List Told) (kept : Committed) : Type 0 where
   pub feeds_are : length kept.buffer ≡ feeds
   pub committed : IsCommitted kept.buffer (history_of told)
+  pub resolved : AreResolved feed kept.buffer
   pub settled : All (IsSettled told) kept.buffer
   pub timestamps : (place : ℕ) (d : FeedState) → place < length kept.buffer → (get_or kept.buffer place d).timestamp ≡ timestamp_of told (suc place)
   pub stands : IsPermutation (sched feed (history_of told)) (runs_of kept.snapshot)

@@ -1,6 +1,7 @@
 -- What a command line is answered over a folder, and what is written.
 use Rattle.std.specs.Prelude.{◌≡◌, ◌⊎◌, ℕ, List, Option, Some, None}
 use Rattle.command_words.specs.Commands.{Task, task_of}
+use Rattle.command_words.specs.Commands.Task.{serve}
 use Rattle.command_words.specs.Values.{AreAsked}
 use Rattle.otp_base.specs.Faults.{Rose}
 use Rattle.otp_base.specs.Sink.{AppendsFront, AppendsKnown}
@@ -32,9 +33,15 @@ pub record IsFailed (files : Option (List FileEntry)) (words : List (List ℕ)) 
   pub asked : IsAskedBy words task options
   pub fails : Fails files task options why
 
+-- the words are no command, or the one that isn't carried out over a folder alone
+abbrev pub IsNoneHere : Option Task → Type 0
+IsNoneHere None = Unit {0}
+IsNoneHere (Some (serve path asked serving)) = Unit {0}
+IsNoneHere (Some task) = ⊥
+
 -- why nothing is carried out
 abbrev pub IsRefused : Option (List FileEntry) → List (List ℕ) → Refusal → Type 0
-IsRefused files words refusal.Words = task_of words ≡ None
+IsRefused files words refusal.Words = IsNoneHere (task_of words)
 IsRefused files words (refusal.Feed fault) = IsFailed files words (refusal.Feed fault)
 IsRefused files words (refusal.Request fault) = IsFailed files words (refusal.Request fault)
 IsRefused files words (refusal.Message place why) = IsFailed files words (refusal.Message place why)

@@ -22,13 +22,6 @@ use Rattle.otp_server.specs.declared.refusal.Refusal.{Refusal}
 use Rattle.otp_server.specs.declared.refusal.Untaken.{Untaken}
 use Rattle.otp_server.specs.declared.refusal.Refusal.TheVariants as refusal
 
--- a sound feed with edges between its stops, whose profile is in its ranges
-pub record IsSearchable (feed : Feed) (edges : Edges) : Type 0 where
-  pub sound : IsSound feed
-  pub stops : edges.stops ≡ feed.stops
-  pub walks : CanWalk edges.profile
-  pub scale : edges.profile.scale ≤ most_scale
-
 -- the body of a reply after so many commits, and a line feed
 abbrev pub reply_text : Feed → ℕ → Request → Page → List ℕ
 reply_text feed number r page = body_text feed (Plan number r.cursor r.at_least page) ++ codes "\n"

@@ -7,7 +7,7 @@ ghost use Rattle.otp_base.specs.Faults.{Rose};
 ghost use Rattle.otp_model.specs.Limits.{most_calls, most_messages};
 ghost use Rattle.otp_model.specs.Ranges.{AreOptionsInRange};
 ghost use Rattle.otp_server.specs.Commands.{Checks, IsFeedFault, IsPlanFault, Plans, Spells, counts_of};
-ghost use Rattle.otp_server.specs.Reply.{IsSearchable};
+ghost use Rattle.reply_bodies.specs.Plans.{IsSearchable};
 
 use crate::counts::counts_line;
 use crate::refusal::Refusal;

@@ -1,7 +1,9 @@
 ghost use Rattle.std.specs.Prelude.{◌≡◌, ℕ, ◌<◌, ◌≤◌, ◌++◌, [], ◌∷◌, List, None, Some, IfErr, IfOk, OnOk, length, map};
 ghost use Rattle.std.specs.List.Sorted.{IsPermutation};
 ghost use Rattle.change_buffer.specs.Commits.{IsCommitted, pending_of};
+ghost use Rattle.change_buffer.specs.Forms.{AreResolved};
 ghost use Rattle.change_buffer.specs.Offers.{above_of, settled};
+ghost use Rattle.otp_model.specs.Resolution.{AreChangesOf};
 ghost use Rattle.otp_model.specs.Schedule.{sched};
 ghost use Rattle.otp_model.specs.Sound.{IsSound};
 ghost use Rattle.otp_model.specs.declared.message.Commit.{Commit as CommitOf};
@@ -10,9 +12,9 @@ ghost use Rattle.otp_server.specs.Messages.{IsAfter, IsAfterSome, Told, timestam
 ghost use Rattle.otp_server.specs.declared.committed.Uncommitted.TheVariants as uncommitted;
 
 use change_buffer::{Buffer, OfferFault};
-use otp_base::{Memory, Steps};
-use otp_model::{Feed, Message};
-use rt_resolve::Lookup;
+use otp_base::{List, Memory, Steps};
+use otp_model::{Change, Feed, Message};
+use rt_resolve::{Lookup, Resolved};
 use snapshot_store::Snapshot;
 use std::alloc::Global;
 use std::marker::Brand;
@@ -61,7 +63,31 @@ impl Committed {
         ensures older { IfErr result (λ why. (have : ℕ) → why ≡ uncommitted.Older have → (told : List Told) → IsAfter lookup.now (length self.old.buffer) told self.old
             → above_of (timestamp_of told feed_no) message.timestamp ≡ Some have) }
     {
-        match self.buffer.offer(feed_no, message) {
+        let Ok(Resolved { changes, .. }) = lookup.resolve(alloc, &message) else {
+            return Err(Uncommitted::Memory);
+        };
+        self.commit_resolved(alloc, lookup, feed_no, message, changes)
+    }
+
+    /// Commits a message with the changes that it makes.
+    fn commit_resolved(
+        &mut self,
+        alloc: Global,
+        lookup: &Lookup<'_>,
+        feed_no: u32,
+        message: Message,
+        changes: List<Change>,
+    ) -> Result<(), Uncommitted>
+        requires first { 1 ≤ feed_no }
+        requires last { feed_no ≤ length self.old.buffer }
+        requires after { IsAfterSome lookup.now (length self.old.buffer) self.old }
+        requires changes { AreChangesOf lookup.now message changes }
+        ensures ok { OnOk result ((told : List Told) → IsAfter lookup.now (length self.old.buffer) told self.old
+            → (above_of (timestamp_of told feed_no) message.timestamp ≡ None) × IsAfter lookup.now (length self.old.buffer) (told ++ (feed_no, message) ∷ []) self.new) }
+        ensures older { IfErr result (λ why. (have : ℕ) → why ≡ uncommitted.Older have → (told : List Told) → IsAfter lookup.now (length self.old.buffer) told self.old
+            → above_of (timestamp_of told feed_no) message.timestamp ≡ Some have) }
+    {
+        match self.buffer.offer(feed_no, message, changes) {
             Ok(_) => self.publish::<Brand>(alloc, lookup, Blank::new(1)),
             Err(OfferFault::Older { have }) => Err(Uncommitted::Older { have }),
             Err(OfferFault::CountSpent) => unreachable!(),
@@ -80,16 +106,18 @@ impl Committed {
         requires parts { blank.parts ≡ L.parts }
         requires some { 0 < blank.parts }
         requires committed { (history : List CommitOf) × IsCommitted self.old.buffer history }
+        requires resolved { AreResolved lookup.now self.old.buffer }
         ensures buffer { OnOk result (self.new.buffer ≡ map settled self.old.buffer) }
         ensures committed { OnOk result ((history : List CommitOf) (commit : CommitOf) → commit.messages ≡ pending_of self.old.buffer
             → IsCommitted self.old.buffer history → IsCommitted self.new.buffer (history ++ commit ∷ [])) }
         ensures stands { OnOk result ((history : List CommitOf) (commit : CommitOf) → commit.messages ≡ pending_of self.old.buffer
             → IsCommitted self.old.buffer history → IsPermutation (sched lookup.now history) (runs_of self.old.snapshot)
             → IsPermutation (sched lookup.now (history ++ commit ∷ [])) (runs_of self.new.snapshot)) }
+        ensures resolved { OnOk result (AreResolved lookup.now self.new.buffer) }
         ensures memory { IfErr result (λ why. why ≡ uncommitted.Memory) }
     {
         let mut steps = Steps::<L>::new(blank);
-        let prepared = match self.buffer.prepare_with(alloc, lookup) {
+        let prepared = match self.buffer.prepare(alloc, lookup.feed()) {
             Ok(prepared) => prepared,
             Err(_) => return Err(Uncommitted::Memory),
         };

@@ -60,6 +60,13 @@ fn reply<F: Folder>(alloc: Global, words: &[String], folder: &mut F) -> Result<L
                 options,
             },
         ) => plan(alloc, folder, path, &options, query, &messages),
+        Ok(
+            Command::Serve {
+                folder: _folder,
+                options: _options,
+                serving: _serving,
+            },
+        ) => Err(Refusal::Words),
         Err(WordsFault::Words) => Err(Refusal::Words),
         Err(WordsFault::Memory) => Err(Refusal::Memory),
     }

@@ -1,11 +1,11 @@
 ghost use Rattle.std.specs.Prelude.{◌≡◌, IfOk, string_bytes};
-ghost use Rattle.otp_server.specs.Lines.{cause_name, fault_name, fault_offset, feed_line, feed_refusal, line_of, message_line, name_of_file, or_dash, request_line, request_refusal, status_of, untaken_detail, untaken_name, untaken_number};
+ghost use Rattle.otp_server.specs.Lines.{feed_line, feed_refusal, line_of, message_line, name_of_file, or_dash, request_line, request_refusal, status_of, untaken_detail, untaken_name, untaken_number};
 
 use crate::status::Status;
 use otp_base::Memory;
 use otp_model::{FeedFault, FeedFile};
-use pb_wire::WireFault;
-use query_form::{QueryFault, TargetFault};
+use query_form::TargetFault;
+use reply_bodies::{cause_name, fault_name, fault_offset};
 use rt_reader::MessageFault;
 use std::alloc::{AllocError, Global};
 
@@ -151,42 +151,6 @@ fn untaken_name(why: &Untaken) -> &'static str
     }
 }
 
-fn fault_offset(fault: MessageFault) -> Option<u64>
-    ensures { result ≡ fault_offset fault }
-{
-    match fault {
-        MessageFault::Wire(WireFault::Cut { at })
-        | MessageFault::Wire(WireFault::LongVarint { at })
-        | MessageFault::Wire(WireFault::Group { at })
-        | MessageFault::Wire(WireFault::ZeroField { at })
-        | MessageFault::NotText { at }
-        | MessageFault::Repeated { at }
-        | MessageFault::WrongType { at } => Some(at as u64),
-        MessageFault::Wire(WireFault::Memory)
-        | MessageFault::NoHeader
-        | MessageFault::Differential
-        | MessageFault::Memory => None,
-    }
-}
-
-fn fault_name(fault: MessageFault) -> &'static str
-    ensures { result.now ≡ fault_name fault }
-{
-    match fault {
-        MessageFault::Wire(WireFault::Cut { .. }) => "cut",
-        MessageFault::Wire(WireFault::LongVarint { .. }) => "varint",
-        MessageFault::Wire(WireFault::Group { .. }) => "group",
-        MessageFault::Wire(WireFault::ZeroField { .. }) => "zero",
-        MessageFault::NoHeader => "header",
-        MessageFault::Differential => "differential",
-        MessageFault::NotText { .. } => "text",
-        MessageFault::Repeated { .. } => "repeated",
-        MessageFault::WrongType { .. } => "type",
-        // Want of memory is told by the status alone.
-        MessageFault::Wire(WireFault::Memory) | MessageFault::Memory => "memory",
-    }
-}
-
 fn feed_line(
     alloc: Global,
     cause: u8,
@@ -227,15 +191,4 @@ fn or_dash(column: &str) -> &str
     ensures { result.now ≡ or_dash column.now }
 {
     if column.is_empty() { "-" } else { column }
-}
-
-fn cause_name(cause: QueryFault) -> &'static str
-    ensures { result.now ≡ cause_name cause }
-{
-    match cause {
-        QueryFault::Missing => "missing",
-        QueryFault::Bad => "bad",
-        QueryFault::Twice => "twice",
-        QueryFault::UnknownPlace => "unknown",
-    }
 }

@@ -1,4 +1,4 @@
-ghost use Rattle.std.specs.Prelude.{◌≡◌, ◌≤◌, ◌++◌, Err, IfErr, IfOk, List, codes, length};
+ghost use Rattle.std.specs.Prelude.{◌≡◌, ◌≤◌, ◌^◌, Err, IfErr, IfOk, List, length};
 ghost use Rattle.std.specs.List.{All};
 ghost use Rattle.std.specs.List.Sorted.{IsPermutation};
 ghost use Rattle.command_words.specs.Messages.{IsOf, all_asked};
@@ -7,12 +7,11 @@ ghost use Rattle.otp_model.specs.Limits.{most_messages};
 ghost use Rattle.otp_model.specs.Schedule.{sched};
 ghost use Rattle.otp_model.specs.Sound.{AreServed};
 ghost use Rattle.otp_model.specs.declared.message.Commit.{Commit};
-ghost use Rattle.plan_json.specs.Body.{body_text};
-ghost use Rattle.plan_json.specs.declared.body.Body.TheVariants.{Plan};
 ghost use Rattle.query_form.specs.Query.{IsAsked};
+ghost use Rattle.reply_bodies.specs.Plans.{IsSearchable};
 ghost use Rattle.snapshot_store.specs.Snapshots.{runs_of};
 ghost use Rattle.otp_server.specs.Messages.{IsMessageFault};
-ghost use Rattle.otp_server.specs.Reply.{IsAnswered, IsPlanned, IsPlanRefusal, IsReply, IsSearchable};
+ghost use Rattle.otp_server.specs.Reply.{IsAnswered, IsPlanned, IsPlanRefusal, IsReply};
 
 use crate::messages::committed;
 use crate::refusal::Refusal;
@@ -20,9 +19,9 @@ use command_words::MessageWord;
 use feed_load::Loaded;
 use otp_base::{Folder, List, Memory};
 use otp_model::{Edges, Feed, Request};
-use plan_json::{Body, body_bytes};
-use planner::plan;
+use plan_json::body_bytes;
 use query_form::read_query;
+use reply_bodies::plan_body;
 use snapshot_store::Snapshot;
 use std::alloc::Global;
 
@@ -95,17 +94,11 @@ fn reply(
     requires searchable { IsSearchable feed.now edges.now }
     requires asked { IsAsked feed.now.stops request.now }
     requires served { AreServed feed.now (runs_of snapshot.now) }
-    requires few { number ≤ most_messages }
+    requires few { number ≤ 2 ^ 40 }
     ensures { IfOk result (λ text. (history : List Commit) → IsPermutation (sched feed.now history) (runs_of snapshot.now) → length history ≡ number
         → IsReply feed.now edges.now history request.now text) }
 {
-    let page = plan(alloc, snapshot, edges, request)?;
-    let body = Body::Plan {
-        number,
-        cursor: request.cursor,
-        at_least: request.at_least,
-        page,
-    };
+    let body = plan_body(alloc, feed, edges, request, snapshot, number)?;
     let mut bytes = body_bytes(alloc, feed, &body)?;
     bytes.push(b'\n')?;
     Ok(bytes)

@@ -62,6 +62,7 @@ pub const PLAIN: Request = Request {
     page: 20,
     cursor: None,
     at_least: 0,
+    pin: false,
 };
 
 /// What queries ask for.
@@ -92,7 +93,7 @@ fn asked() -> [(&'static str, Request); 5] {
             },
         ),
         (
-            "from=stop:S&to=stop:a%2Bb%26c&time=0&window=1&rides=1&slack=0&walk_points=100&board_points=0&page=1&cursor=v1-7-1-2-3-4&at_least=1099511627776",
+            "from=stop:S&to=stop:a%2Bb%26c&time=0&window=1&rides=1&slack=0&walk_points=100&board_points=0&page=1&cursor=v1-7-1-2-3-4&at_least=1099511627776&pin=1",
             Request {
                 from: Place::Stop(2),
                 to: Place::Stop(4),
@@ -105,6 +106,7 @@ fn asked() -> [(&'static str, Request); 5] {
                 page: 1,
                 cursor: Some(cursor),
                 at_least: 1 << 40,
+                pin: true,
             },
         ),
         // A latitude of 50.5 degrees and a longitude of -0.000001 degrees, rounded down.

@@ -114,6 +114,7 @@ fn between(from: Place, to: Place) -> Request {
         page: 20,
         cursor: None,
         at_least: 0,
+        pin: false,
     }
 }
 

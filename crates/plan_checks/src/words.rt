@@ -1,4 +1,4 @@
-use command_words::{Command, MessageWord, WordsFault, read_words};
+use command_words::{Command, MessageWord, Serving, WordsFault, read_words};
 use otp_model::Profile;
 use std::alloc::{AllocError, Global};
 use std::test::Fail;
@@ -16,12 +16,14 @@ fn words(alloc: Global, line: &str) -> Result<Vec<String>, AllocError> {
 }
 
 /// The front of words that are no command.
-const REFUSED: [&str; 20] = [
+const REFUSED: [&str; 27] = [
     // No command, or too few or too many positional words.
-    "serve|f",
+    "show|f",
     "check",
     "check|f|q",
     "plan|f",
+    "serve",
+    "serve|f|q=1",
     // A message without a feed or a name, or of a feed that isn't there.
     "plan|f|q=1|=m.pb",
     "plan|f|q=1|1=",
@@ -33,14 +35,19 @@ const REFUSED: [&str; 20] = [
     "check|f|--days|-1",
     "check|f|--days=7",
     "check|--|f",
-    // An option of no command.
+    // An option of no command, or of `serve` alone.
+    "check|f|--host|h",
     "check|f|--port|80",
+    "plan|f|q=1|--connections|1",
     // Numbers out of range, too long, or none.
     "check|f|--days|32",
     "check|f|--speed|99",
     "check|f|--reach|5000001",
     "check|f|--days|0000000000000000007",
     "check|f|--days|+7",
+    "serve|f|--port|65536",
+    "serve|f|--workers|0",
+    "serve|f|--connections|1099511627777",
     // With the zone and the first day behind it: twice.
     "check|f|--zone|Etc/UTC=UTC0",
 ];
@@ -82,7 +89,26 @@ fn is_the_plan(command: &Command<'_>) -> bool {
                 && (options.first_day, options.days, options.feeds) == (19_849, 31, 16)
                 && options.profile == LEAST
         }
-        Command::Check { .. } => false,
+        Command::Check { .. } | Command::Serve { .. } => false,
+    }
+}
+
+const SERVE: &str = "serve|--port|0|f|--workers|64";
+
+const SERVED: Serving = Serving {
+    port: 0,
+    workers: 64,
+    connections: 1_099_511_627_776,
+};
+
+fn is_served(command: &Command<'_>) -> bool {
+    match command {
+        Command::Serve {
+            folder,
+            options,
+            serving,
+        } => *folder == "f" && options.days == 7 && *serving == SERVED,
+        Command::Check { .. } | Command::Plan { .. } => false,
     }
 }
 
@@ -101,6 +127,17 @@ fn reads_words(rt: HostRuntime) -> Result<(), Fail> {
     }
     for line in refused() {
         assert!(rt; are_refused(alloc, line)?, "{line}");
+    }
+    Ok(())
+}
+
+#[test]
+fn reads_how_to_serve(rt: HostRuntime) -> Result<(), Fail> {
+    let alloc = rt.alloc();
+    let words = words(alloc, SERVE)?;
+    match read_words(alloc, &words) {
+        Ok(command) => assert!(rt; is_served(&command)),
+        Err(_) => assert!(rt; false, "nothing to serve"),
     }
     Ok(())
 }

@@ -47,6 +47,13 @@ fn loaded(rt: &HostRuntime, words: &[String]) -> Result<(bool, Loaded), Stop> {
                 options: _options,
             },
         ) => Err(Stop::Words),
+        Ok(
+            Command::Serve {
+                folder: _folder,
+                options: _options,
+                serving: _serving,
+            },
+        ) => Err(Stop::Words),
         Err(_fault) => Err(Stop::Words),
     }
 }

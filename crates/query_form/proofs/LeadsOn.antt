@@ -121,12 +121,17 @@ module _ (pairs : List Pair) (text : List ℕ) where
       kept_step (number_at pairs parameter.BoardPoints 0 1000000 (Some 60000)) (number_at added parameter.BoardPoints 0 1000000 (Some 60000)) _ _ r there h7 (number-kept parameter.BoardPoints 0 1000000 (Some 60000) refl) (λ x8 h8.
       kept_step (number_at pairs parameter.Page 1 200 (Some 20)) (number_at added parameter.Page 1 200 (Some 20)) _ _ r there h8 (number-kept parameter.Page 1 200 (Some 20) refl) (λ x9 h9.
       changed_step (cursor_at pairs) (cursor_at added) _ _ r there None (Some cursor) h9
-      (λ before h10. let last = stepped (number_at pairs parameter.AtLeast 0 1099511627776 (Some 0)) _ r h10 in ap (λ (read : Result Request Refusal). (request_or r read).cursor) last.gives ∙ none)
+      (λ before h10.
+      let least = stepped (number_at pairs parameter.AtLeast 0 1099511627776 (Some 0)) _ r h10 in
+      let last = stepped (number_at pairs parameter.Pin 0 1 (Some 0)) _ r least.gives in
+      ap (λ (read : Result Request Refusal). (request_or r read).cursor) last.gives ∙ none)
       (cursor-added cursor reads)
       (λ h10.
-      let last = stepped (number_at pairs parameter.AtLeast 0 1099511627776 (Some 0)) _ r h10 in
-      step (number_at added parameter.AtLeast 0 1099511627776 (Some 0)) _ last.from (Ok there) (number-kept parameter.AtLeast 0 1099511627776 (Some 0) refl ∙ last.was)
-      (ap (λ (read : Result Request Refusal). Ok (from_cursor (request_or r read) (Some cursor))) last.gives)))))))))))
+      let least = stepped (number_at pairs parameter.AtLeast 0 1099511627776 (Some 0)) _ r h10 in
+      let last = stepped (number_at pairs parameter.Pin 0 1 (Some 0)) _ r least.gives in
+      step (number_at added parameter.AtLeast 0 1099511627776 (Some 0)) _ least.from (Ok there) (number-kept parameter.AtLeast 0 1099511627776 (Some 0) refl ∙ least.was)
+      (step (number_at added parameter.Pin 0 1 (Some 0)) _ last.from (Ok there) (number-kept parameter.Pin 0 1 (Some 0) refl ∙ last.was)
+      (ap (λ (read : Result Request Refusal). Ok (from_cursor (request_or r read) (Some cursor))) last.gives))))))))))))
 
 pub leads_on : NextLeadsOn
 leads_on query stops scale r cursor h none fits =

@@ -1,5 +1,5 @@
 -- What the query of a plan asks for. Names, ranges and defaults of the parameters are this project's own.
-use Rattle.std.specs.Prelude.{◌≡◌, ℕ, ◌≤◌, ◌^◌, List, Option, Some, None, Result, Ok, Err, codes, pos, ◌≤ℤ◌}
+use Rattle.std.specs.Prelude.{◌≡◌, ℕ, ◌≤◌, ◌^◌, ◌==◌, List, Option, Some, None, Result, Ok, Err, codes, pos, ◌≤ℤ◌}
 use Rattle.otp_base.specs.Number.{number_in}
 use Rattle.otp_base.specs.Results.{◌>>=◌}
 use Rattle.otp_model.specs.Limits.{least_walk_points, most_board_points, most_rides, most_walk_points}
@@ -33,6 +33,7 @@ name_of parameter.BoardPoints = codes "board_points"
 name_of parameter.Page = codes "page"
 name_of parameter.Cursor = codes "cursor"
 name_of parameter.AtLeast = codes "at_least"
+name_of parameter.Pin = codes "pin"
 name_of parameter.Commit = codes "commit"
 
 -- the fault of a parameter
@@ -94,7 +95,8 @@ request_in pairs stops scale = do
   page ← number_at pairs parameter.Page 1 200 (Some 20)
   cursor ← cursor_at pairs
   at_least ← number_at pairs parameter.AtLeast 0 (2 ^ 40) (Some 0)
-  Ok (record { from = from; to = to; time = pos time; window = window; rides = rides; slack = slack; walk_points = walk_points; board_points = board_points; page = page; cursor = cursor; at_least = at_least })
+  pin ← number_at pairs parameter.Pin 0 1 (Some 0)
+  Ok (record { from = from; to = to; time = pos time; window = window; rides = rides; slack = slack; walk_points = walk_points; board_points = board_points; page = page; cursor = cursor; at_least = at_least; pin = pin == 1 })
 
 abbrev pub query_of : List ℕ → List Stop → ℕ → Result Request Refusal
 query_of query stops scale = request_in (pairs_of query) stops scale

@@ -19,6 +19,7 @@ pub enum Parameter {
     Page,
     Cursor,
     AtLeast,
+    Pin,
     Commit,
 }
 
@@ -38,6 +39,7 @@ impl Parameter {
             Parameter::Page => "page",
             Parameter::Cursor => "cursor",
             Parameter::AtLeast => "at_least",
+            Parameter::Pin => "pin",
             Parameter::Commit => "commit",
         }
     }

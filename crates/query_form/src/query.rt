@@ -17,8 +17,8 @@ use std::alloc::Global;
 /// The parameters are looked at in this order: `from` and `to`, each `stop:ID` of a row of location_type 0
 /// or 1, or `at:LAT,LON`, and `time`, 0 to 9,999,999,999, are needed; `window`, 1 to 86,400 (3,600); `rides`,
 /// 1 to 8 (4); `slack`, 0 to 3,600 (120); `walk_points`, 100 to 2,000 (200); `board_points`, 0 to 1,000,000
-/// (60,000); `page`, 1 to 200 (20); `cursor`, the text of a cursor (none); `at_least`, 0 to 2^40 (0). The first
-/// fault is answered: a parameter stands more than once, is missing, isn't of the form or in the range, or
+/// (60,000); `page`, 1 to 200 (20); `cursor`, the text of a cursor (none); `at_least`, 0 to 2^40 (0);
+/// `pin`, 0 or 1 (0). The first fault is answered: a parameter stands more than once, is missing, isn't of the form or in the range, or
 /// names no stop of the feed. Unknown parameters are passed over.
 pub fn read_query(
     alloc: Global,
@@ -57,6 +57,7 @@ fn request(pairs: &[Pair], stops: &[Stop], scale: u32) -> Result<Request, Refusa
     let page = number_at(pairs, Parameter::Page, 1, 200, Some(20))?;
     let cursor = cursor_at(pairs)?;
     let at_least = number_at(pairs, Parameter::AtLeast, 0, 1 << 40, Some(0))?;
+    let pin = number_at(pairs, Parameter::Pin, 0, 1, Some(0))?;
     Ok(Request {
         from,
         to,
@@ -69,6 +70,7 @@ fn request(pairs: &[Pair], stops: &[Stop], scale: u32) -> Result<Request, Refusa
         page: page as u32,
         cursor,
         at_least,
+        pin: pin == 1,
     })
 }
 

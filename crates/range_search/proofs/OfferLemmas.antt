@@ -25,7 +25,8 @@ use Rattle.raptor_rounds.specs.declared.node.Final.{Final}
 use Rattle.raptor_rounds.specs.declared.state.RoundState.{RoundState}
 use Rattle.raptor_rounds.specs.Labels.{IsFinal, IsFound}
 use Rattle.raptor_rounds.specs.Moments.{AreMoments, IsMomentIn}
-use Rattle.raptor_rounds.specs.States.{IsSearched, departures_of, finals_of}
+use Rattle.raptor_rounds.specs.States.{departures_of, finals_of}
+use Rattle.raptor_rounds.specs.Searched.{IsSearched}
 use Rattle.range_search.specs.Searches.{AreOffers, AreSearched, IsKept, IsOfferOf}
 
 -- ---- offers
@@ -64,12 +65,12 @@ kept_at blocks s finals i d same kept less = subst (λ (xs : List Final). All (I
 
 final_seen : (runs : List Run) (blocks : List (List LaneOf)) (edges : Edges) (r : Request) (s : RoundState) → IsSearched runs blocks edges r s → (f : Final) → Contains (finals_of s) f → Contains (departures_of s) f.value.departure
 final_seen runs blocks edges r s is f on =
-    let made = All-contains (IsFinal r s.egress.items s.arena.items) (finals_of s) f is.open_is.finals_are on in
+    let made = All-contains (IsFinal r s.aim.egress.items s.arena.items) (finals_of s) f is.open_is.finals_are on in
     subst (Contains (departures_of s)) (sym (ap (λ (z : Final). z.value.departure) made.is.1)) (is.seen f.label made.node made.node_is)
 
 pub finals_kept : (runs : List Run) (blocks : List (List LaneOf)) (edges : Edges) (r : Request) (s : RoundState) → IsSearched runs blocks edges r s → All (IsKept blocks s) (finals_of s)
 finals_kept runs blocks edges r s is =
-    All-weaker (IsFinal r s.egress.items s.arena.items) (IsKept blocks s) (λ f made. let l = is.sound f.label made.node made.node_is in (l.last ∷ l.rest, l.chain)) (finals_of s) is.open_is.finals_are
+    All-weaker (IsFinal r s.aim.egress.items s.arena.items) (IsKept blocks s) (λ f made. let l = is.sound f.label made.node made.node_is in (l.last ∷ l.rest, l.chain)) (finals_of s) is.open_is.finals_are
 
 -- the first ride of a journey
 pub record IsFirstOf (runs : List Run) (edges : Edges) (r : Request) (legs : List Leg) : Type 0 where

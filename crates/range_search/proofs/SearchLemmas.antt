@@ -10,7 +10,8 @@ use Rattle.otp_model.specs.declared.timetable.Run.{Run}
 use Rattle.trip_patterns.specs.Lanes.{LaneOf}
 use Rattle.raptor_rounds.specs.declared.state.RoundState.{RoundState}
 use Rattle.raptor_rounds.specs.Moments.{IsEarlier}
-use Rattle.raptor_rounds.specs.States.{AreFinalsEnough, IsBefore, IsSearched, departures_of}
+use Rattle.raptor_rounds.specs.States.{AreFinalsEnough, IsBefore, departures_of}
+use Rattle.raptor_rounds.specs.Searched.{IsSearched}
 use Rattle.range_search.specs.Searches.{AreSearched, IsMomentAfter}
 
 -- the last moment but so many

@@ -11,7 +11,8 @@ use Rattle.trip_patterns.specs.Lanes.{LaneOf}
 use Rattle.raptor_rounds.specs.declared.node.Final.{Final}
 use Rattle.raptor_rounds.specs.declared.state.RoundState.{RoundState}
 use Rattle.raptor_rounds.specs.Labels.{HasChain, IsFound}
-use Rattle.raptor_rounds.specs.States.{AreFinalsEnough, IsSearched, arena_of, departures_of, finals_of}
+use Rattle.raptor_rounds.specs.States.{AreFinalsEnough, arena_of, departures_of, finals_of}
+use Rattle.raptor_rounds.specs.Searched.{IsSearched}
 
 -- one of the moments from a place of the list on
 abbrev pub IsMomentAfter : List ℤ → ℕ → ℤ → Type 0

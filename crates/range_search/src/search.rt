@@ -4,10 +4,12 @@ ghost use Rattle.otp_model.specs.Ranges.{CanSearch};
 ghost use Rattle.otp_model.specs.Whole.{IsWhole};
 ghost use Rattle.walk_table.specs.Reaches.{AreReached};
 ghost use Rattle.raptor_rounds.specs.Moments.{IsEarlier};
-ghost use Rattle.raptor_rounds.specs.States.{IsSearched, departures_of};
+ghost use Rattle.raptor_rounds.specs.States.{departures_of};
+ghost use Rattle.raptor_rounds.specs.Searched.{IsSearched};
 ghost use Rattle.range_search.specs.Searches.{AreSearched};
 
 use crate::offers::offers_of;
+use end_bounds::end_bounds;
 use otp_base::Memory;
 use otp_model::{Edges, Found, Request, Time};
 use pareto_front::front_of;
@@ -29,8 +31,9 @@ pub fn best<T: Timetable>(
 {
     let access = reach_of(alloc, edges, &request.from)?;
     let egress = reach_of(alloc, edges, &request.to)?;
+    let bounds = end_bounds(alloc, timetable, edges, request, &egress)?;
     let moments = moments_of(alloc, timetable, request, &access)?;
-    let mut state = RoundState::new(alloc, edges.stops.len(), egress)?;
+    let mut state = RoundState::new(alloc, edges.stops.len(), request.rides, egress, bounds)?;
     search_all(
         alloc, timetable, edges, request, &access, &moments, &mut state,
     )?;

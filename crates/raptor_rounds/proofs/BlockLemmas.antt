@@ -16,7 +16,11 @@ use Rattle.trip_patterns.specs.Lanes.{IsLane, LaneOf}
 use Rattle.trip_patterns.specs.Timetables.{ArePlacesOf, IsBlock, IsPlaceOf, IsSameBlock, StandsFor}
 use Rattle.trip_patterns.specs.declared.timetable.BlockStop.{BlockStop}
 use Rattle.raptor_rounds.specs.declared.ready.Ready.{Ready}
+use Rattle.end_bounds.specs.Bounds.{AreBounds, Bounds}
+use Rattle.otp_model.specs.declared.journey.Request.{Request}
+use Rattle.otp_model.specs.declared.timetable.Edges.{Edges}
 use Rattle.raptor_rounds.specs.Closure.{Entry}
+use Rattle.raptor_rounds.specs.RunBounds.{AreRideBounds, AreRunBounds}
 use Rattle.raptor_rounds.specs.Rides.{Boards, CatchesAt, IsTimelyLane, StopsAt}
 use Rattle.raptor_rounds.proofs.LaneLemmas.{all_at, pairs_at, spot_at}
 
@@ -185,3 +189,24 @@ module _ (blocks : List (List LaneOf)) (runs : List Run) (stands : StandsFor blo
           ),
         ),
       )
+
+-- ---- bounds
+
+pub ride_bounds : (blocks : List (List LaneOf)) (edges : Edges) (r : Request) (b : Bounds) → AreBounds blocks edges r b → AreRideBounds blocks r b
+ride_bounds blocks edges r b bounds = record {
+  each = λ block lanes lane at on. record { each = λ run from to name board alight row timely ride more few within. bounds.rides block lanes lane run from to name board alight more at on row timely ride few within };
+}
+
+-- a run of the schedule is bounded where it stands
+pub run_bounds : (blocks : List (List LaneOf)) (runs : List Run) → StandsFor blocks runs → (edges : Edges) (r : Request) (b : Bounds) → All IsTimely runs → AreBounds blocks edges r b → AreRunBounds runs edges r b
+run_bounds blocks runs stands edges r b timely bounds = record {
+  ends = bounds.ends;
+  walks = bounds.walks;
+  rides = λ run from to name board alight on ride.
+      let in_block = flat_has rows_of blocks run (Contains-permutation runs (flat_map rows_of blocks) run stands.rows on) in
+      let in_lane = flat_has (λ (x : LaneOf). x.runs) in_block.0 run in_block.2 in
+      record {
+        block = in_block.1.0;
+        bound = λ more few within. bounds.rides in_block.1.0 in_block.0 in_lane.0 run from to name board alight more (found_at blocks in_block.0 in_block.1) in_lane.1 in_lane.2 (All-contains IsTimely runs run timely on) ride few within;
+      };
+}

@@ -14,7 +14,8 @@ use Rattle.otp_model.specs.Plane.{IsReached}
 use Rattle.otp_model.specs.Journeys.{HasValue, IsTransfer}
 use Rattle.otp_model.specs.Whole.{IsNoWorse as IsNoWorseValue, IsOffered}
 use Rattle.otp_model.proofs.BeginningLemmas.{split, rides_onto, arrival_onto, departure_onto, cost_onto}
-use Rattle.raptor_rounds.specs.Bounds.{Bounds, AreBounds}
+use Rattle.end_bounds.specs.Bounds.{Bounds}
+use Rattle.raptor_rounds.specs.RunBounds.{AreRunBounds}
 use Rattle.raptor_rounds.specs.Closure.{Entry, End, IsNoWorse, IsMet, IsEnded, IsLostEntry, IsSettled, Reaches, IsClosed, IsValueOf, end_at, entry_of_hops, next_entry}
 use Rattle.raptor_rounds.proofs.LostLemmas.{trans_ℤ, same_ℤ, costs_more, lost_worse, lost_more, lost_walk, lost_ride, lost_end}
 
@@ -69,7 +70,7 @@ reaches_earlier runs edges slack e at h s t x ride = record {
   ride = ride;
 }
 
-module _ (runs : List Run) (edges : Edges) (r : Request) (b : Bounds) (labels : Entry → Type 0) (ends : End → Type 0) (bounds : AreBounds runs edges r b) (moments : ℤ → Type 0)
+module _ (runs : List Run) (edges : Edges) (r : Request) (b : Bounds) (labels : Entry → Type 0) (ends : End → Type 0) (bounds : AreRunBounds runs edges r b) (moments : ℤ → Type 0)
     (closed : IsClosed runs edges r b labels ends moments) where
   pub settled : (h : Hop) (hops : List Hop) → IsBeginning runs edges r (h ∷ hops) → moments (departs (h ∷ hops)) → length (h ∷ hops) ≤ r.rides → IsSettled r b labels ends (entry_of_hops r h hops)
   settled h [] w at few = rw zero-add (closed.starts h w.0 w.1 at)
@@ -136,7 +137,7 @@ value_no_worse g v ends x m w y =
     let d' = y.departure in let a' = y.arrival in let k' = y.rides in let c' = y.cost in
     record { departs = rw (d, d') late; arrives = rw (a, a') early; rides = omega arith; cost = omega (arith, ints) }
 
-module _ (runs : List Run) (edges : Edges) (r : Request) (b : Bounds) (labels : Entry → Type 0) (ends : End → Type 0) (points : least_walk_points ≤ r.walk_points) (bounds : AreBounds runs edges r b)
+module _ (runs : List Run) (edges : Edges) (r : Request) (b : Bounds) (labels : Entry → Type 0) (ends : End → Type 0) (points : least_walk_points ≤ r.walk_points) (bounds : AreRunBounds runs edges r b)
     (moments : ℤ → Type 0) (closed : IsClosed runs edges r b labels ends moments) where
   -- the value of some end is no worse than that of a journey that departs at one of the moments
   pub dominated : (v : Value) → IsOffered runs edges r v → moments v.departure → (f : End) × ends f × ((w : Value) → IsValueOf f w → IsNoWorseValue w v)

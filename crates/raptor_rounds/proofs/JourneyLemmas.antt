@@ -22,7 +22,7 @@ use Rattle.raptor_rounds.specs.declared.node.Node.{Node}
 use Rattle.raptor_rounds.specs.declared.state.RoundState.{RoundState}
 use Rattle.raptor_rounds.specs.Closure.{End, Entry, end_at, entry_of_hops}
 use Rattle.raptor_rounds.specs.Labels.{HasChain, IsChain, IsFinal, IsFound, IsHopOf, IsLink, KeepsHop, end_of}
-use Rattle.raptor_rounds.specs.States.{IsSearched}
+use Rattle.raptor_rounds.specs.Searched.{IsSearched}
 use Rattle.raptor_rounds.proofs.BlockLemmas.{block_is}
 use Rattle.raptor_rounds.proofs.LaneLemmas.{all_at, within_pattern}
 use Rattle.raptor_rounds.proofs.RoundLemmas.{final_end}
@@ -132,7 +132,7 @@ module _ (blocks : List (List LaneOf)) (arena : List Node) (i : ℕ) (n : Node) 
 module _ (runs : List Run) (blocks : List (List LaneOf)) (edges : Edges) (r : Request) (s : RoundState) (points : least_walk_points ≤ r.walk_points) (is : IsSearched runs blocks edges r s) where
   pub found_of : (f : Final) (legs : List Leg) → Contains s.finals.items f → ((hops : List Hop) → IsChain blocks s.arena.items f.label hops → legs ≡ legs_onto hops (Walk f.egress ∷ [])) → IsFound runs edges r f.value legs
   found_of f legs on kept =
-      let made = All-contains (IsFinal r s.egress.items s.arena.items) s.finals.items f is.open_is.finals_are on in
+      let made = All-contains (IsFinal r s.aim.egress.items s.arena.items) s.finals.items f is.open_is.finals_are on in
       let n = made.node in
       let reach = made.reach in
       let l = is.sound f.label n made.node_is in

@@ -81,6 +81,10 @@ module _ (lane : LaneOf) (b : Ready) (position row : ℕ) (is : IsLane lane) (fi
   pub catches_none : length lane.runs ≤ row → ⊥
   catches_none past = let l = slice_get_within lane.runs q.row q.run q.run_is in let m = not_missed in absurd (omega (arith, l, m, past))
 
+  -- and none departs before it
+  pub first_departs : (call : Call) → IsCallAt lane.runs row position call → call.departure ≤ℤ q.board.departure
+  first_departs call at = (no_earlier_at lane is row q.row position call q.board not_missed at boards).1
+
   pub catches_late : (call : Call) → IsCallAt lane.runs row position call → (IsUntil b.latest call.departure → ⊥) → ⊥
   catches_late call at late =
       late (until_earlier b.latest call.departure q.board.departure (no_earlier_at lane is row q.row position call q.board not_missed at boards).1 (let t = q.in_time in t.until))

@@ -9,9 +9,9 @@ use Rattle.raptor_rounds.specs.Closure.{Entry, IsMet}
 use Rattle.raptor_rounds.specs.Labels.{InArena, InFinals}
 use Rattle.raptor_rounds.specs.Laws.{BagsCover, IsInBags}
 use Rattle.raptor_rounds.specs.States.{IsOpen, Saw, bounds_of, labels_of}
+use Rattle.raptor_rounds.proofs.BlockLemmas.{run_bounds}
 use Rattle.raptor_rounds.proofs.ClosureLemmas.{settled}
 use Rattle.raptor_rounds.proofs.LostLemmas.{trans_ℤ}
-use Rattle.raptor_rounds.proofs.RoundLemmas.{zero_bounds_hold}
 
 at_most : (p q : ℕ) (l : ℤ) → l ≤ℤ pos p → p ≤ q → l ≤ℤ pos q
 at_most p q l a b = omega (arith, ints, a, b)
@@ -38,8 +38,8 @@ in_bags r s e open_is m =
     }
 
 pub bags_cover : BagsCover
-bags_cover runs blocks edges r s can is h hops begins at few =
-    elim (settled runs edges r (bounds_of s) (InArena s.arena.items) (InFinals s.finals.items) (zero_bounds_hold runs blocks edges r can.timely) (Saw s) is.closed h hops begins at few) [
+bags_cover runs blocks edges r s stands can is h hops begins at few =
+    elim (settled runs edges r (bounds_of s) (InArena s.arena.items) (InFinals s.finals.items) (run_bounds blocks runs stands edges r (bounds_of s) can.timely is.bounds) (Saw s) is.closed h hops begins at few) [
       | inl met ↦ inl (in_bags r s _ is.open_is met)
       | inr lost ↦ inr lost
     ]

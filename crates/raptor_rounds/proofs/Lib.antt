@@ -1,12 +1,15 @@
 mod ArenaLemmas
 mod BlockLemmas
 mod BoardLemmas
+mod BoundLemmas
 mod ClosureLemmas
+mod FrontLemmas
 mod JourneyLemmas
 mod LabelLemmas
 mod LaneLemmas
 mod LawLemmas
 mod LostLemmas
+mod MarkLemmas
 mod MomentLemmas
 mod RoundLemmas
 mod SettleLemmas

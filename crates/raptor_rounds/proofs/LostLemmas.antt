@@ -1,5 +1,5 @@
 -- What extends a beginning that is lost is lost.
-use Rattle.std.proofs.Common.{ℕ, ◌+◌, ◌≤◌, ◌<◌, ℤ, pos, ◌+ℤ◌, ◌≤ℤ◌, List, sym, arith}
+use Rattle.std.proofs.Common.{◌≡◌, ℕ, ◌+◌, ◌≤◌, ◌<◌, ℤ, pos, ◌+ℤ◌, ◌≤ℤ◌, List, refl, sym, arith}
 use Rattle.std.specs.List.{Contains}
 use Rattle.std.proofs.lemmas.Int.{ints}
 use Rattle.otp_model.specs.declared.run_name.RunName.{RunName}
@@ -10,8 +10,9 @@ use Rattle.otp_model.specs.declared.journey.Request.{Request}
 use Rattle.otp_model.specs.Beginnings.{cost_at, hop_penalty, walk_penalty}
 use Rattle.otp_model.specs.Plane.{IsReached}
 use Rattle.otp_model.specs.Journeys.{IsTransfer, IsRideOn}
-use Rattle.raptor_rounds.specs.Bounds.{Bounds, AreBounds, zero_bounds}
+use Rattle.end_bounds.specs.Bounds.{Bounds}
 use Rattle.raptor_rounds.specs.Closure.{End, IsEnded, IsLost}
+use Rattle.raptor_rounds.specs.RunBounds.{AreRunBounds, IsBounded}
 
 -- ---- over plain numbers
 
@@ -28,8 +29,8 @@ costs_more d e t u p q a b c = omega (arith, ints)
 walk_sums : (a d : ℤ) (m x y : ℕ) → x ≤ m + y → (a +ℤ pos m) ≤ℤ d → (a +ℤ pos x) ≤ℤ (d +ℤ pos y)
 walk_sums a d m x y f g = omega (arith, ints)
 
-ride_sums : (a d : ℤ) (x m y : ℕ) → x ≤ m → (a +ℤ pos m) ≤ℤ (d +ℤ pos y) → (a +ℤ pos x) ≤ℤ (d +ℤ pos y)
-ride_sums a d x m y f g = omega (arith, ints)
+wait_sums : (t a d : ℤ) (x m y : ℕ) → t ≤ℤ a → x ≤ m → (a +ℤ pos m) ≤ℤ (d +ℤ pos y) → (t +ℤ pos x) ≤ℤ (d +ℤ pos y)
+wait_sums t a d x m y e f g = omega (arith, ints)
 
 pub ended_worse : (ends : End → Type 0) (d e t u c v : ℤ) (k n : ℕ) → e ≤ℤ d → k ≤ n → t ≤ℤ u → c ≤ℤ v → IsEnded ends d k t c → IsEnded ends e n u v
 ended_worse ends d e t u c v k n x y z w m = record {
@@ -79,7 +80,33 @@ lost_more far last old new seconds points d k t p more l = record {
       record { by = m.by; on = more m.by m.on; late = m.late; few = m.few; early = m.early; cheap = m.cheap };
 }
 
-module _ (runs : List Run) (edges : Edges) (r : Request) (b : Bounds) (bounds : AreBounds runs edges r b) (ends : End → Type 0) where
+-- along a ride that is bounded, from being ready for it at a time, and from its place
+module _ (r : Request) (b : Bounds) (ends : End → Type 0) (block from : ℕ) (board alight : Call) (stop : ℕ) (d : ℤ) (k : ℕ) (t : ℤ) (p : ℕ) (stop_is : board.stop ≡ stop) (in_time : t ≤ℤ board.departure) (some : 2 ≤ k)
+    (bounded : IsBounded r b block from board alight) where
+  pub ready_lost : IsLost b.far r.rides ends (b.ready stop) (b.ready_points stop) d k t p → IsLost b.far r.rides ends (b.alight alight.stop) (b.alight_points alight.stop) d k alight.arrival p
+  ready_lost l = lost_from b.far r.rides ends _ _ _ _ d d k k t alight.arrival p p (same_ℤ d) near (rw (sym stop_is) at l)
+    where
+      near : (j : ℕ) → k + j ≤ r.rides → b.alight alight.stop j < b.far → IsNearer b.far (b.ready board.stop) (b.ready_points board.stop) k t p (b.alight alight.stop j) (b.alight_points alight.stop j) k alight.arrival p j
+      near j few within =
+          let w = bounded j (omega arith) within in
+          let c = w.points in
+          let s = w.seconds in
+          let o = w.ready in
+          let i = w.within in
+          record { more = j; level = omega arith; within = omega arith; early = wait_sums t board.departure alight.arrival _ _ _ in_time o s; cheap = omega arith }
+
+  pub place_lost : IsLost b.far r.rides ends (b.place block from) (b.ready_points stop) d k t p → IsLost b.far r.rides ends (b.alight alight.stop) (b.alight_points alight.stop) d k alight.arrival p
+  place_lost l = lost_from b.far r.rides ends _ _ _ _ d d k k t alight.arrival p p (same_ℤ d) near (rw (sym stop_is) at l)
+    where
+      near : (j : ℕ) → k + j ≤ r.rides → b.alight alight.stop j < b.far → IsNearer b.far (b.place block from) (b.ready_points board.stop) k t p (b.alight alight.stop j) (b.alight_points alight.stop j) k alight.arrival p j
+      near j few within =
+          let w = bounded j (omega arith) within in
+          let c = w.points in
+          let s = w.seconds in
+          let i = w.within in
+          record { more = j; level = omega arith; within = i; early = wait_sums t board.departure alight.arrival _ _ _ in_time (omega arith) s; cheap = omega arith }
+
+module _ (runs : List Run) (edges : Edges) (r : Request) (b : Bounds) (bounds : AreRunBounds runs edges r b) (ends : End → Type 0) where
   -- along an edge, to be ready for the next ride
   pub lost_walk : (alight board : Call) (walk : ℕ) (d : ℤ) (k p : ℕ) → 1 ≤ k → IsTransfer edges r.slack alight board walk
       → IsLost b.far r.rides ends (b.alight alight.stop) (b.alight_points alight.stop) d k alight.arrival p
@@ -99,13 +126,9 @@ module _ (runs : List Run) (edges : Edges) (r : Request) (b : Bounds) (bounds : 
   pub lost_ride : (run : Run) (from to : ℕ) (name : RunName) (board alight : Call) (d : ℤ) (k p : ℕ) → 2 ≤ k → Contains runs run → IsRideOn run from to name board alight
       → IsLost b.far r.rides ends (b.ready board.stop) (b.ready_points board.stop) d k board.departure p
       → IsLost b.far r.rides ends (b.alight alight.stop) (b.alight_points alight.stop) d k alight.arrival p
-  lost_ride run from to name board alight d k p some on ride l = lost_from b.far r.rides ends _ _ _ _ d d k k board.departure alight.arrival p p (same_ℤ d)
-      (λ j few within. let w = bounds.rides run from to name board alight j on ride (omega arith) within in
-      let c = w.points in
-      let s = w.seconds in
-      let o = w.ready in
-      let i = w.within in
-      record { more = j; level = omega arith; within = omega arith; early = ride_sums board.departure alight.arrival _ _ _ o s; cheap = omega arith }) l
+  lost_ride run from to name board alight d k p some on ride l =
+      let x = bounds.rides run from to name board alight on ride in
+      ready_lost r b ends x.block from board alight board.stop d k board.departure p refl (same_ℤ board.departure) some x.bound l
 
   -- at a stop of the egress some end is as good as the journey that ends there
   pub lost_end : (stop egress : ℕ) (d : ℤ) (k : ℕ) (t : ℤ) (p : ℕ) → k ≤ r.rides → IsReached edges r.to stop egress
@@ -119,14 +142,3 @@ module _ (runs : List Run) (edges : Edges) (r : Request) (b : Bounds) (bounds : 
       ended_worse ends d d _ _ _ _ (k + 0) k (same_ℤ d) (omega arith) early
       (costs_more d d _ _ (p + b.alight_points stop 0) (p + walk_penalty r egress) (same_ℤ d) early (omega arith))
       (l.ended 0 (omega arith) w.within)
-
--- where no ride ends before it began, to know nothing keeps the law
-pub zero_are_bounds : (runs : List Run) (edges : Edges) (r : Request)
-    → ((run : Run) (from to : ℕ) (name : RunName) (board alight : Call) → Contains runs run → IsRideOn run from to name board alight → board.departure ≤ℤ alight.arrival)
-    → AreBounds runs edges r zero_bounds
-zero_are_bounds runs edges r forward = record {
-  ends = λ stop egress x. record { within = omega arith; seconds = omega arith; points = omega arith };
-  walks = λ stop row edge j x on few within. record { within = omega arith; seconds = omega arith; points = omega arith };
-  rides = λ run from to name board alight j on ride few within. let f = forward run from to name board alight on ride in
-      record { within = omega arith; seconds = omega (arith, ints); ready = omega arith; points = omega arith };
-}

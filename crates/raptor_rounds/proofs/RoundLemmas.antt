@@ -1,5 +1,5 @@
 -- Round by round: what is kept, and what all rounds for a departure leave.
-use Rattle.std.proofs.Common.{◌≡◌, inl, inr, ℕ, ◌+◌, ◌*◌, ◌≤◌, ◌<◌, ℤ, pos, ◌+ℤ◌, ◌-ℤ◌, ◌≤ℤ◌, List, [], ◌∷◌, ◌++◌, length, refl, sym, ap, subst, ◌∙◌, arith, unsigned_abs}
+use Rattle.std.proofs.Common.{◌≡◌, inl, inr, ℕ, ◌+◌, ◌*◌, ◌≤◌, ◌<◌, ℤ, pos, ◌+ℤ◌, ◌-ℤ◌, ◌≤ℤ◌, ◌<ℤ◌, List, [], ◌∷◌, ◌++◌, length, refl, sym, ap, subst, ◌∙◌, arith, unsigned_abs}
 use Rattle.std.specs.List.{All, Contains}
 use Rattle.std.proofs.lemmas.Bool.{cases_lt}
 use Rattle.std.proofs.lemmas.Int.{ints}
@@ -8,28 +8,28 @@ use Rattle.std.proofs.lemmas.Option.{slice_get_within}
 use Rattle.otp_base.specs.Adds.{FromBelow, FromSome}
 use Rattle.otp_model.specs.Beginnings.{Hop, IsHop, cost_at, walk_penalty}
 use Rattle.otp_model.specs.Plane.{IsReached}
-use Rattle.otp_model.specs.Ranges.{CanSearch, IsTimely}
+use Rattle.otp_model.specs.Ranges.{CanSearch}
 use Rattle.otp_model.specs.declared.journey.Request.{Request}
-use Rattle.otp_model.specs.declared.timetable.Call.{Call}
 use Rattle.otp_model.specs.declared.timetable.Edges.{Edges}
 use Rattle.otp_model.specs.declared.timetable.Run.{Run}
 use Rattle.trip_patterns.specs.Lanes.{LaneOf}
 use Rattle.trip_patterns.specs.Timetables.{StandsFor}
 use Rattle.walk_table.specs.Reaches.{AreReached}
 use Rattle.walk_table.specs.declared.reach.Reach.{Reach}
+use Rattle.raptor_rounds.specs.declared.marks.Marks.{Marks}
 use Rattle.raptor_rounds.specs.declared.node.Final.{Final}
 use Rattle.raptor_rounds.specs.declared.node.Node.{Node}
 use Rattle.raptor_rounds.specs.declared.state.RoundState.{RoundState}
-use Rattle.raptor_rounds.specs.Bounds.{AreBounds, zero_bounds}
 use Rattle.raptor_rounds.specs.Closure.{Entry, End, IsScanned, IsValueOf, end_at, first_entry}
 use Rattle.raptor_rounds.specs.Labels.{InArena, InFinals, IsLabelOf, end_of, entry_of, final_by}
+use Rattle.raptor_rounds.specs.Marks.{AreMarks}
 use Rattle.raptor_rounds.specs.Rides.{IsNodeInRange, IsRiddenOn, ready_at, ready_by}
 use Rattle.raptor_rounds.specs.Scans.{GoesOnAt, IsNext, IsStartedBy, StartsBy}
-use Rattle.raptor_rounds.specs.States.{AreFinalsEnough, IsOfRound, IsRound, IsScannedBelow, IsSearched, IsStateSettled, Saw, SawDepartureOf, Settles, bounds_of}
+use Rattle.raptor_rounds.specs.States.{AreFinalsEnough, IsBefore, IsOfRound, IsOpen, IsRound, IsScannedBelow, IsStateSettled, Saw, SawDepartureOf, Settles, bounds_of}
+use Rattle.raptor_rounds.specs.Searched.{IsLastRound, IsSearched}
+use Rattle.raptor_rounds.proofs.BlockLemmas.{run_bounds}
 use Rattle.raptor_rounds.proofs.ClosureLemmas.{dominated}
 use Rattle.raptor_rounds.proofs.LabelLemmas.{each_grown, label_kept, label_next, label_started}
-use Rattle.raptor_rounds.proofs.LaneLemmas.{pairs_at}
-use Rattle.raptor_rounds.proofs.LostLemmas.{zero_are_bounds}
 use Rattle.raptor_rounds.proofs.SettleLemmas.{still_settled}
 
 -- ---- a label that came
@@ -51,7 +51,7 @@ module _ (runs : List Run) (blocks : List (List LaneOf)) (stands : StandsFor blo
 
   -- `pushed` is the state with the departure, and `new` that with the first rides
   module _ (starts : List Reach) (old pushed new : RoundState) (reached : AreReached edges r.from starts) (was : IsSearched runs blocks edges r old)
-      (arena_is : pushed.arena ≡ old.arena) (finals_are : pushed.finals ≡ old.finals) (egress_is : pushed.egress ≡ old.egress) (departures_are : pushed.departures.items ≡ old.departures.items ++ d ∷ [])
+      (arena_is : pushed.arena ≡ old.arena) (finals_are : pushed.finals ≡ old.finals) (aim_is : pushed.aim ≡ old.aim) (departures_are : pushed.departures.items ≡ old.departures.items ++ d ∷ [])
       (s : Settles r d (FromSome (StartsBy runs r d) starts) (FromSome (IsStartedBy blocks r d) starts) pushed new) where
     all_departures : new.departures.items ≡ old.departures.items ++ d ∷ []
     all_departures = s.departures_are ∙ departures_are
@@ -63,7 +63,7 @@ module _ (runs : List Run) (blocks : List (List LaneOf)) (stands : StandsFor blo
     saw_new = rw all_departures (Contains-push old.departures.items d)
 
     old_settled : (e : Entry) → IsStateSettled r old e → IsStateSettled r new e
-    old_settled e h = still_settled r d (FromSome (StartsBy runs r d) starts) (FromSome (IsStartedBy blocks r d) starts) pushed new e s (rw (arena_is, finals_are) h)
+    old_settled e h = still_settled r d (FromSome (StartsBy runs r d) starts) (FromSome (IsStartedBy blocks r d) starts) pushed new e s (rw (arena_is, finals_are, aim_is) h)
 
     start_settled : (h : Hop) → IsReached edges r.from h.board.stop h.walk → IsHop runs h → h.board.departure -ℤ pos h.walk ≡ d → IsStateSettled r new (first_entry r h)
     start_settled h from hop at =
@@ -86,10 +86,25 @@ module _ (runs : List Run) (blocks : List (List LaneOf)) (stands : StandsFor blo
         until : (t : ℤ) (w : ℕ) → t -ℤ pos w ≡ d → t ≤ℤ (d +ℤ pos w)
         until t w e = omega (arith, ints, e)
 
+    before : (t : ℤ) → d <ℤ t → d ≤ℤ t
+    before t h = omega (arith, ints, h)
+
+    pub marks_first : All (IsBefore d) (old.departures.items) → AreMarks runs r new d old.marks
+    marks_first later = record {
+      kept = record {
+        bags_are = was.marks.bags_are;
+        seen = λ i n h. saw_old n.departure (was.marks.seen i n h);
+        boarded = λ i n h hop can. old_settled _ (was.marks.boarded i n h hop can);
+      };
+      late = λ i n h. before n.departure (All-contains (IsBefore d) old.departures.items n.departure later (was.marks.seen i n h));
+      saw = saw_new;
+    }
+
     pub round_first : IsRound runs blocks edges r d new.departures.items (length old.arena.items) 1 new
     round_first = record {
       open_is = s.open_is;
-      egress = rw (s.egress_is, egress_is) was.egress;
+      egress = rw (s.aim_is, aim_is) was.egress;
+      bounds = rw (s.aim_is, aim_is) was.bounds;
       departures_are = refl;
       saw = saw_new;
       sound = each_grown r d _ _ pushed new (IsLabelOf runs blocks edges r new.arena.items) s
@@ -117,7 +132,8 @@ module _ (runs : List Run) (blocks : List (List LaneOf)) (stands : StandsFor blo
       → IsRound runs blocks edges r d departures (length old.arena.items) (rides + 1) new
   round_more departures first rides old new was s = record {
     open_is = s.open_is;
-    egress = rw s.egress_is was.egress;
+    egress = rw s.aim_is was.egress;
+    bounds = rw s.aim_is was.bounds;
     departures_are = s.departures_are ∙ was.departures_are;
     saw = more d was.saw;
     sound = each_grown r d _ _ old new (IsLabelOf runs blocks edges r new.arena.items) s
@@ -168,19 +184,28 @@ final_end r i n reach range =
     λ k. record { departure = n.departure; arrival = n.time +ℤ pos reach.seconds; rides = n.rides; cost = cost k }
 
 module _ (runs : List Run) (blocks : List (List LaneOf)) (edges : Edges) (r : Request) where
-  pub searched_after : (d : ℤ) (departures : List ℤ) (first rides : ℕ) (s : RoundState) → r.rides ≤ rides → IsRound runs blocks edges r d departures first rides s → IsSearched runs blocks edges r s
-  searched_after d departures first rides s all round = record {
-    open_is = round.open_is.open_is;
+  -- the state that takes its marks back
+  open_with : (s : RoundState) (marks : Marks) → IsOpen r s → IsOpen r (record s { marks = marks })
+  open_with s marks o = record { bags_are = o.bags_are; covered = o.covered; in_range = o.in_range; ended = o.ended; finals_are = o.finals_are; fronts = o.fronts }
+
+  pub searched_after : (d : ℤ) (departures : List ℤ) (s : RoundState) (marks : Marks) → IsLastRound runs blocks edges r d departures s → AreMarks runs r s d marks → IsSearched runs blocks edges r (record s { marks = marks })
+  searched_after d departures s marks last kept = record {
+    open_is = open_with s marks round.open_is.open_is;
     egress = round.egress;
+    bounds = round.bounds;
     sound = round.sound;
     seen = round.seen;
     closed = record { starts = round.starts; scanned = scanned; ended = ended };
+    marks = record { bags_are = kept.kept.bags_are; seen = kept.kept.seen; boarded = kept.kept.boarded };
   }
     where
+      round : IsRound runs blocks edges r d departures last.first last.rides s
+      round = last.round
+
       scanned : (e : Entry) → InArena s.arena.items e → e.rides < r.rides → IsScanned runs edges r (bounds_of s) (InArena s.arena.items) (InFinals s.finals.items) e
-      scanned e on few = elim (cases_lt on.0 first) [
+      scanned e on few = elim (cases_lt on.0 last.first) [
         | inl below ↦ subst (IsScanned runs edges r (bounds_of s) (InArena s.arena.items) (InFinals s.finals.items)) on.3 (round.scanned on.0 on.1 on.2 below (subst (λ (x : Entry). x.rides < r.rides) (sym on.3) few))
-        | inr after ↦ let last = (round.round on.0 on.1 on.2).rides_are after in let few' = subst (λ (x : Entry). x.rides < r.rides) (sym on.3) few in absurd (omega (arith, last, few', all))
+        | inr after ↦ let count = (round.round on.0 on.1 on.2).rides_are after in let few' = subst (λ (x : Entry). x.rides < r.rides) (sym on.3) few in absurd (omega (arith, count, few', last.all))
       ]
 
       ended : (e : Entry) (egress : ℕ) → InArena s.arena.items e → IsReached edges r.to e.stop egress → InFinals s.finals.items (end_at r e egress)
@@ -193,13 +218,9 @@ module _ (runs : List Run) (blocks : List (List LaneOf)) (edges : Edges) (r : Re
             final_end r on.0 on.1 reach (open_is.in_range on.0 on.1 on.2) ∙ ap (λ (x : Entry). end_at r x egress) on.3,
           )
 
-  pub zero_bounds_hold : All IsTimely runs → AreBounds runs edges r zero_bounds
-  zero_bounds_hold timely = zero_are_bounds runs edges r (λ run from to name board alight on ride.
-      pairs_at (λ (earlier later : Call). earlier.departure ≤ℤ later.arrival) run.calls from to board alight ((All-contains IsTimely runs run timely on).forward) ride.before ride.boards ride.alights)
-
-  pub finals_enough : (s : RoundState) → CanSearch runs edges r → IsSearched runs blocks edges r s → AreFinalsEnough runs edges r s
-  finals_enough s can is v offered at =
-      let f = dominated runs edges r (bounds_of s) (InArena s.arena.items) (InFinals s.finals.items) can.numbers.walk_points.0 (zero_bounds_hold can.timely) (Saw s) is.closed v offered at in
+  pub finals_enough : StandsFor blocks runs → (s : RoundState) → CanSearch runs edges r → IsSearched runs blocks edges r s → AreFinalsEnough runs edges r s
+  finals_enough stands s can is v offered at =
+      let f = dominated runs edges r (bounds_of s) (InArena s.arena.items) (InFinals s.finals.items) can.numbers.walk_points.0 (run_bounds blocks runs stands edges r (bounds_of s) can.timely is.bounds) (Saw s) is.closed v offered at in
       let final : Final = (f.1).0 in
       let on : Contains s.finals.items final = (f.1).1 in
       let same : end_of final ≡ f.0 = (f.1).2 in

@@ -10,13 +10,15 @@ use Rattle.otp_base.specs.EachAt.{EachAt}
 use Rattle.otp_base.proofs.EachAtLemmas.{each_push, each_weaker}
 use Rattle.otp_model.specs.declared.journey.Request.{Request}
 use Rattle.walk_table.specs.declared.reach.Reach.{Reach}
+use Rattle.final_fronts.specs.declared.step.Step.{Step}
+use Rattle.raptor_rounds.specs.declared.bags.StopBags.{StopBags}
 use Rattle.raptor_rounds.specs.declared.node.Node.{Node}
 use Rattle.raptor_rounds.specs.declared.node.Final.{Final}
 use Rattle.raptor_rounds.specs.declared.state.RoundState.{RoundState}
 use Rattle.raptor_rounds.specs.Closure.{Entry, IsMet, IsNoWorse}
 use Rattle.raptor_rounds.specs.Labels.{HasFinals, InArena, InFinals, IsFinal, IsFinalBy, entry_of, final_by}
 use Rattle.raptor_rounds.specs.Rides.{IsNodeInRange}
-use Rattle.raptor_rounds.specs.States.{AreBags, IsCoveredAt, IsEntryOf, IsInRangeAt, IsItself, IsKeptCovered, IsLate, IsOpenAt, IsStateSettled, Settles, bounds_of}
+use Rattle.raptor_rounds.specs.States.{AreBags, AreFronts, IsCoveredAt, IsEntryOf, IsInRangeAt, IsItself, IsKeptCovered, IsLate, IsOpenAt, IsStateSettled, Settles, bounds_of}
 use Rattle.raptor_rounds.proofs.ArenaLemmas.{kept_push, last_push, push_cases}
 use Rattle.raptor_rounds.proofs.ClosureLemmas.{no_worse_same, settled_more, settled_worse}
 use Rattle.raptor_rounds.proofs.LostLemmas.{same_ℤ}
@@ -25,13 +27,13 @@ module _ (r : Request) (d : ℤ) where
   -- what is settled stays so while the state grows
   pub still_settled : (Q : Entry → Type 0) (P : Node → Type 0) (old new : RoundState) (e : Entry) → Settles r d Q P old new → IsStateSettled r old e → IsStateSettled r new e
   still_settled Q P old new e s was =
-      settled_more r (bounds_of old) (InArena old.arena.items) (InArena new.arena.items) (InFinals old.finals.items) (InFinals new.finals.items) e
-      (λ x on. (on.0, on.1, s.kept on.0 on.1 on.2, on.3)) (λ f on. (on.0, s.grown on.0 on.1, on.2)) was
+      rw s.aim_is (settled_more r (bounds_of old) (InArena old.arena.items) (InArena new.arena.items) (InFinals old.finals.items) (InFinals new.finals.items) e
+      (λ x on. (on.0, on.1, s.kept on.0 on.1 on.2, on.3)) (λ f on. (on.0, s.grown on.0 on.1, on.2)) was)
 
   pub settles_was : (Q : Entry → Type 0) (P : Node → Type 0) (s : RoundState) → IsOpenAt r d s → ((e : Entry) → Q e → IsStateSettled r s e) → Settles r d Q P s s
   settles_was Q P s open_is is = record {
     open_is = open_is;
-    egress_is = refl;
+    aim_is = refl;
     departures_are = refl;
     kept = λ i n h. h;
     grown = λ f on. on;
@@ -47,7 +49,7 @@ module _ (r : Request) (d : ℤ) where
       → Settles r d Q P old new → Settles r d Q' P' old new
   settles_as Q Q' P P' old new better from s = record {
     open_is = s.open_is;
-    egress_is = s.egress_is;
+    aim_is = s.aim_is;
     departures_are = s.departures_are;
     kept = s.kept;
     grown = s.grown;
@@ -63,7 +65,7 @@ module _ (r : Request) (d : ℤ) where
   pub settles_then : (Q Q' : Entry → Type 0) (P : Node → Type 0) (a b c : RoundState) → Settles r d Q P a b → Settles r d Q' P b c → Settles r d (λ e. Q e ⊎ Q' e) P a c
   settles_then Q Q' P a b c s t = record {
     open_is = t.open_is;
-    egress_is = t.egress_is ∙ s.egress_is;
+    aim_is = t.aim_is ∙ s.aim_is;
     departures_are = t.departures_are ∙ s.departures_are;
     kept = λ i n h. t.kept i n (s.kept i n h);
     grown = λ f on. t.grown f (s.grown f on);
@@ -108,52 +110,60 @@ module _ (r : Request) (d : ℤ) where
 
 -- ---- one label
 
+-- fronts stay those of finals while these grow
+fronts_more : (old new : List Final) (fronts : List (List Step)) → ((f : Final) → Contains old f → Contains new f) → AreFronts old fronts → AreFronts new fronts
+fronts_more old new fronts more are k front h step on = let s = are k front h step on in record { by = s.by; on = more s.by s.on; few = s.few; step_is = s.step_is }
+
 -- what a bag covers is met
-pub met_by_bag : (r : Request) (s : RoundState) (n : Node) → IsOpenAt r n.departure s → IsCoveredAt s.bags.items n → IsMet (InArena s.arena.items) (entry_of n)
-met_by_bag r s n open_is c =
+pub met_in : (nodes : List Node) (bags : List StopBags) (n : Node) → AreBags nodes bags → EachAt (IsLate n.departure) nodes → IsCoveredAt bags n → IsMet (InArena nodes) (entry_of n)
+met_in nodes bags n bags_are late c =
     let any = c.covered.covered in
     let l = any.1 in
     let early : l.time ≤ℤ n.time = any.4.0 in
     let cheap : l.penalty ≤ℤ pos n.penalty = any.4.1 in
-    let at = open_is.open_is.bags_are n.stop c.at c.at_is c.covered.k c.covered.bag c.covered.bag_is l (any.0, any.2, any.3) in
+    let at = bags_are n.stop c.at c.at_is c.covered.k c.covered.bag c.covered.bag_is l (any.0, any.2, any.3) in
     let time : l.time ≡ at.node.time = at.time_is in
     let penalty : l.penalty ≡ pos at.node.penalty = at.penalty_is in (
       entry_of at.node,
       (l.number, at.node, at.node_is, refl),
       record {
         same = at.stop_is;
-        late = open_is.late l.number at.node at.node_is;
+        late = late l.number at.node at.node_is;
         few = omega (arith, at.rides_are, c.covered.few);
         early = rw time at early;
         cheap = omega (arith, ints, penalty, cheap);
       },
     )
 
+pub met_by_bag : (r : Request) (s : RoundState) (n : Node) → IsOpenAt r n.departure s → IsCoveredAt s.bags.items n → IsMet (InArena s.arena.items) (entry_of n)
+met_by_bag r s n open_is c = met_in s.arena.items s.bags.items n open_is.open_is.bags_are open_is.late c
+
 -- a label that was pushed, with its finals
 pub record IsPushed (r : Request) (n : Node) (old new : RoundState) : Type 0 where
-  pub egress_is : new.egress.items ≡ old.egress.items
+  pub aim_is : new.aim ≡ old.aim
   pub departures_are : new.departures.items ≡ old.departures.items
   pub arena_is : new.arena.items ≡ old.arena.items ++ n ∷ []
   pub bags_are : AreBags (old.arena.items ++ n ∷ []) new.bags.items
   pub covered : EachAt (IsKeptCovered new.bags.items) (old.arena.items ++ n ∷ [])
-  pub finals_are : Adds (FromSome (IsFinalBy r (length old.arena.items) n) old.egress.items) old.finals.items new.finals.items
+  pub finals_are : Adds (FromSome (IsFinalBy r (length old.arena.items) n) old.aim.egress.items) old.finals.items new.finals.items
+  pub fronts_are : AreFronts new.finals.items old.fronts.items → AreFronts new.finals.items new.fronts.items
 
 module _ (r : Request) (n : Node) (old new : RoundState) (range : IsNodeInRange r n) (open_is : IsOpenAt r n.departure old) (p : IsPushed r n old new) where
-  has_finals : EachAt (HasFinals r old.egress.items new.finals.items) (old.arena.items ++ n ∷ [])
-  has_finals = each_push (HasFinals r old.egress.items new.finals.items) old.arena.items n
-      (each_weaker (HasFinals r old.egress.items old.finals.items) (HasFinals r old.egress.items new.finals.items) old.arena.items
+  has_finals : EachAt (HasFinals r old.aim.egress.items new.finals.items) (old.arena.items ++ n ∷ [])
+  has_finals = each_push (HasFinals r old.aim.egress.items new.finals.items) old.arena.items n
+      (each_weaker (HasFinals r old.aim.egress.items old.finals.items) (HasFinals r old.aim.egress.items new.finals.items) old.arena.items
       (λ i m has reach on stop. p.finals_are.kept (final_by r i m reach) (has reach on stop)) open_is.open_is.ended)
       (λ reach on stop. p.finals_are.added (final_by r (length old.arena.items) n reach) (reach, on, (stop, refl)))
 
-  is_final : (f : Final) → Contains new.finals.items f → IsFinal r old.egress.items (old.arena.items ++ n ∷ []) f
+  is_final : (f : Final) → Contains new.finals.items f → IsFinal r old.aim.egress.items (old.arena.items ++ n ∷ []) f
   is_final f on = elim (p.finals_are.only f on) [ inl was ↦ before was | inr h ↦ newest h.0 h.1 h.2 ]
     where
-      before : Contains old.finals.items f → IsFinal r old.egress.items (old.arena.items ++ n ∷ []) f
+      before : Contains old.finals.items f → IsFinal r old.aim.egress.items (old.arena.items ++ n ∷ []) f
       before was =
-          let x = All-contains (IsFinal r old.egress.items old.arena.items) old.finals.items f open_is.open_is.finals_are was in
+          let x = All-contains (IsFinal r old.aim.egress.items old.arena.items) old.finals.items f open_is.open_is.finals_are was in
           record { node = x.node; node_is = kept_push old.arena.items n f.label x.node x.node_is; reach = x.reach; on = x.on; is = x.is }
 
-      newest : (reach : Reach) → Contains old.egress.items reach → IsFinalBy r (length old.arena.items) n reach f → IsFinal r old.egress.items (old.arena.items ++ n ∷ []) f
+      newest : (reach : Reach) → Contains old.aim.egress.items reach → IsFinalBy r (length old.arena.items) n reach f → IsFinal r old.aim.egress.items (old.arena.items ++ n ∷ []) f
       newest reach from is =
           let label : f.label ≡ length old.arena.items = ap (λ (z : Final). z.label) is.1 in
           record {
@@ -170,8 +180,9 @@ module _ (r : Request) (n : Node) (old new : RoundState) (range : IsNodeInRange 
       bags_are = rw p.arena_is p.bags_are;
       covered = rw p.arena_is p.covered;
       in_range = rw p.arena_is (each_push (IsInRangeAt r) old.arena.items n open_is.open_is.in_range range);
-      ended = rw (p.arena_is, p.egress_is) has_finals;
-      finals_are = rw (p.arena_is, p.egress_is) (All-weaker (Contains new.finals.items) (IsFinal r old.egress.items (old.arena.items ++ n ∷ [])) is_final new.finals.items (All-contains_itself new.finals.items));
+      ended = rw (p.arena_is, p.aim_is) has_finals;
+      finals_are = rw (p.arena_is, p.aim_is) (All-weaker (Contains new.finals.items) (IsFinal r old.aim.egress.items (old.arena.items ++ n ∷ [])) is_final new.finals.items (All-contains_itself new.finals.items));
+      fronts = p.fronts_are (fronts_more old.finals.items new.finals.items old.fronts.items p.finals_are.kept open_is.open_is.fronts);
     };
     late = rw p.arena_is (each_push (IsLate n.departure) old.arena.items n open_is.late (same_ℤ n.departure));
   }
@@ -179,7 +190,7 @@ module _ (r : Request) (n : Node) (old new : RoundState) (range : IsNodeInRange 
   pub settles_push : Settles r n.departure (IsEntryOf n) (IsItself n) old new
   settles_push = record {
     open_is = open_pushed;
-    egress_is = p.egress_is;
+    aim_is = p.aim_is;
     departures_are = p.departures_are;
     kept = λ i m h. rw p.arena_is (kept_push old.arena.items n i m h);
     grown = p.finals_are.kept;

@@ -8,7 +8,7 @@ use Rattle.otp_model.specs.declared.journey.Value.{Value}
 use Rattle.otp_model.specs.Beginnings.{Hop, IsHop, cost_at, departs, hop_penalty, penalty, walk_penalty}
 use Rattle.otp_model.specs.Plane.{IsReached}
 use Rattle.otp_model.specs.Journeys.{IsTransfer}
-use Rattle.raptor_rounds.specs.Bounds.{Bounds}
+use Rattle.end_bounds.specs.Bounds.{Bounds}
 
 -- the numbers of a beginning that comes to a stop by so many rides
 pub record Entry : Type 0 where
@@ -58,6 +58,10 @@ IsLostEntry r b ends e = IsLost b.far r.rides ends (b.alight e.stop) (b.alight_p
 -- being ready there for a ride, which is counted
 abbrev pub IsLostReady : Request → Bounds → (End → Type 0) → Entry → Type 0
 IsLostReady r b ends e = IsLost b.far r.rides ends (b.ready e.stop) (b.ready_points e.stop) e.departure e.rides e.time e.penalty
+
+-- departing with a run of the block from a position, whose call is at the entry's stop, at its time or later
+abbrev pub IsLostPlace : Request → Bounds → (End → Type 0) → (block position : ℕ) → Entry → Type 0
+IsLostPlace r b ends block position e = IsLost b.far r.rides ends (b.place block position) (b.ready_points e.stop) e.departure e.rides e.time e.penalty
 
 abbrev pub IsSettled : Request → Bounds → (Entry → Type 0) → (End → Type 0) → Entry → Type 0
 IsSettled r b labels ends e = IsMet labels e ⊎ IsLostEntry r b ends e

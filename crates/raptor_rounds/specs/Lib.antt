@@ -1,7 +1,9 @@
-pub mod Bounds
+pub mod RunBounds
 pub mod Closure
 pub mod Labels
 pub mod Laws
+pub mod Marks
+pub mod Searched
 pub mod Moments
 pub mod Rides
 pub mod Scans

@@ -14,6 +14,7 @@ use Rattle.otp_model.specs.Ranges.{IsRequestInRange, IsTime, IsTimely}
 use Rattle.trip_patterns.specs.Lanes.{IsLane, LaneOf}
 use Rattle.trip_patterns.specs.declared.timetable.BlockStop.{BlockStop}
 use Rattle.walk_table.specs.declared.reach.Reach.{Reach}
+use Rattle.final_fronts.specs.declared.standing.Standing.{Standing}
 use Rattle.raptor_rounds.specs.declared.node.Node.{Node}
 use Rattle.raptor_rounds.specs.declared.ready.LanePlace.{LanePlace}
 use Rattle.raptor_rounds.specs.declared.ready.Ready.{Ready}
@@ -32,6 +33,10 @@ pub record IsInTime (b : Ready) (t : ℤ) : Type 0 where
 -- to alight there
 abbrev pub alight_entry : Ready → Call → Entry
 alight_entry b call = record { stop = call.stop; departure = b.departure; rides = b.rides; time = call.arrival; penalty = b.penalty }
+
+-- to be ready there at a time
+abbrev pub ready_entry : Ready → ℤ → Entry
+ready_entry b t = record { stop = b.stop; departure = b.departure; rides = b.rides; time = t; penalty = b.penalty }
 
 abbrev pub node_at : Ready → LanePlace → (row to : ℕ) → Call → Node
 node_at b at row to call = record {
@@ -155,6 +160,14 @@ ready_by r i n edge = record {
   walk = edge.walk;
 }
 
+-- where a label stands
+abbrev pub standing_of : Node → Standing
+standing_of n = record { stop = n.stop; departure = n.departure; rides = n.rides; time = n.time; penalty = n.penalty }
+
+-- where someone who is ready stands at a time
+abbrev pub standing_at : Ready → ℤ → Standing
+standing_at b t = record { stop = b.stop; departure = b.departure; rides = b.rides; time = t; penalty = b.penalty }
+
 -- ---- ranges
 
 -- what a hop costs at most beyond 100 for each second
@@ -179,6 +192,7 @@ pub record IsReadyInRange (r : Request) (b : Ready) : Type 0 where
   pub few : b.rides ≤ r.rides
   pub departs : neg_ℤ (pos most_departure) ≤ℤ b.departure
   pub forward : b.departure ≤ℤ b.time
+  pub soon : b.time ≤ℤ pos most_departure
   pub little : b.penalty ≤ b.rides * most_hop
 
 -- after this access

@@ -14,11 +14,14 @@ use Rattle.walk_table.specs.Reaches.{AreReached}
 use Rattle.raptor_rounds.specs.declared.bags.StopBags.{StopBags}
 use Rattle.raptor_rounds.specs.declared.node.Node.{Node}
 use Rattle.raptor_rounds.specs.declared.node.Final.{Final}
+use Rattle.raptor_rounds.specs.declared.ready.Ready.{Ready}
 use Rattle.raptor_rounds.specs.declared.state.RoundState.{RoundState}
-use Rattle.raptor_rounds.specs.Bounds.{Bounds, zero_bounds}
-use Rattle.raptor_rounds.specs.Closure.{AreStartsSettled, Entry, IsClosed, IsScanned, IsSettled}
+use Rattle.end_bounds.specs.Bounds.{AreBounds, Bounds}
+use Rattle.end_bounds.specs.Found.{bounds_of as bounds_in}
+use Rattle.final_fronts.specs.declared.step.Step.{Step}
+use Rattle.raptor_rounds.specs.Closure.{AreStartsSettled, Entry, IsLostPlace, IsLostReady, IsScanned, IsSettled}
 use Rattle.raptor_rounds.specs.Labels.{HasFinals, InArena, InFinals, IsFinal, IsLabelOf, entry_of}
-use Rattle.raptor_rounds.specs.Rides.{IsNodeInRange}
+use Rattle.raptor_rounds.specs.Rides.{IsNodeInRange, ready_entry}
 
 -- ---- bags
 
@@ -97,9 +100,9 @@ arena_of s = s.arena.items
 abbrev pub finals_of : RoundState → List Final
 finals_of s = s.finals.items
 
--- what is known of seconds and points to the destination: nothing
+-- what is known of seconds and points to the destination
 abbrev pub bounds_of : RoundState → Bounds
-bounds_of s = zero_bounds
+bounds_of s = bounds_in s.aim.bounds
 
 -- the label's numbers are met by a label of the state, or lost
 abbrev pub IsStateSettled : Request → RoundState → Entry → Type 0
@@ -108,13 +111,31 @@ IsStateSettled r s e = IsSettled r (bounds_of s) (InArena s.arena.items) (InFina
 abbrev pub IsInRangeAt : Request → ℕ → Node → Type 0
 IsInRangeAt r i n = IsNodeInRange r n
 
--- the bags, the arena and the finals belong together
+abbrev pub step_of : Final → Step
+step_of f = record { arrival = f.value.arrival; cost = pos f.value.cost }
+
+-- the step is that of a final with no more rides
+pub record IsStepOf (finals : List Final) (rides : ℕ) (step : Step) : Type 0 where
+  pub by : Final
+  pub on : Contains finals by
+  pub few : by.value.rides ≤ rides
+  pub step_is : step_of by ≡ step
+
+abbrev pub IsFrontOf : List Final → (rides : ℕ) → List Step → Type 0
+IsFrontOf finals rides front = (step : Step) → Contains front step → IsStepOf finals rides step
+
+-- each step of a front is that of a final with no more rides than the front's number
+abbrev pub AreFronts : List Final → List (List Step) → Type 0
+AreFronts finals fronts = EachAt (IsFrontOf finals) fronts
+
+-- the bags, the arena, the finals and their fronts belong together
 pub record IsOpen (r : Request) (s : RoundState) : Type 0 where
   pub bags_are : AreBags s.arena.items s.bags.items
   pub covered : EachAt (IsKeptCovered s.bags.items) s.arena.items
   pub in_range : EachAt (IsInRangeAt r) s.arena.items
-  pub ended : EachAt (HasFinals r s.egress.items s.finals.items) s.arena.items
-  pub finals_are : All (IsFinal r s.egress.items s.arena.items) s.finals.items
+  pub ended : EachAt (HasFinals r s.aim.egress.items s.finals.items) s.arena.items
+  pub finals_are : All (IsFinal r s.aim.egress.items s.arena.items) s.finals.items
+  pub fronts : AreFronts s.finals.items s.fronts.items
 
 abbrev pub IsLate : ℤ → ℕ → Node → Type 0
 IsLate departure i n = departure ≤ℤ n.departure
@@ -138,7 +159,7 @@ IsItself n m = n ≡ m
 -- The state grew, by labels with P alone, and what has Q is settled.
 pub record Settles (r : Request) (departure : ℤ) (Q : Entry → Type 0) (P : Node → Type 0) (old new : RoundState) : Type 0 where
   pub open_is : IsOpenAt r departure new
-  pub egress_is : new.egress.items ≡ old.egress.items
+  pub aim_is : new.aim ≡ old.aim
   pub departures_are : new.departures.items ≡ old.departures.items
   pub kept : (i : ℕ) (n : Node) → slice_get old.arena.items i ≡ Some n → slice_get new.arena.items i ≡ Some n
   pub grown : (f : Final) → Contains old.finals.items f → Contains new.finals.items f
@@ -162,7 +183,8 @@ IsScannedBelow runs edges r s first i n = i < first → n.rides < r.rides → Is
 -- still to be gone on from.
 pub record IsRound (runs : List Run) (blocks : List (List LaneOf)) (edges : Edges) (r : Request) (departure : ℤ) (departures : List ℤ) (first rides : ℕ) (s : RoundState) : Type 0 where
   pub open_is : IsOpenAt r departure s
-  pub egress : AreReached edges r.to s.egress.items
+  pub egress : AreReached edges r.to s.aim.egress.items
+  pub bounds : AreBounds blocks edges r (bounds_of s)
   pub departures_are : s.departures.items ≡ departures
   pub saw : Saw s departure
   pub sound : EachAt (IsLabelOf runs blocks edges r s.arena.items) s.arena.items
@@ -175,11 +197,14 @@ pub record IsRound (runs : List Run) (blocks : List (List LaneOf)) (edges : Edge
 abbrev pub AreFinalsEnough : List Run → Edges → Request → RoundState → Type 0
 AreFinalsEnough runs edges r s = (v : Value) → IsOffered runs edges r v → Saw s v.departure → Any (λ f. IsNoWorse f.value v) s.finals.items
 
--- A state after rounds for some departures: each label stands for a beginning of a journey that departs at one of them, each
--- such beginning is met or lost, and each label at a stop of the egress has its final.
-pub record IsSearched (runs : List Run) (blocks : List (List LaneOf)) (edges : Edges) (r : Request) (s : RoundState) : Type 0 where
-  pub open_is : IsOpen r s
-  pub egress : AreReached edges r.to s.egress.items
-  pub sound : EachAt (IsLabelOf runs blocks edges r s.arena.items) s.arena.items
-  pub seen : EachAt (SawDepartureOf s) s.arena.items
-  pub closed : IsClosed runs edges r (bounds_of s) (InArena s.arena.items) (InFinals s.finals.items) (Saw s)
+-- ---- what may be left out
+
+-- a further ride, whichever is taken
+pub record IsLostStop (r : Request) (s : RoundState) (b : Ready) : Type 0 where
+  pub further : 2 ≤ b.rides
+  pub lost : IsLostReady r (bounds_of s) (InFinals s.finals.items) (ready_entry b b.time)
+
+-- a further ride of a block from a position, at the time or later
+pub record IsLostFrom (r : Request) (s : RoundState) (b : Ready) (block position : ℕ) (time : ℤ) : Type 0 where
+  pub further : 2 ≤ b.rides
+  pub lost : IsLostPlace r (bounds_of s) (InFinals s.finals.items) block position (ready_entry b time)

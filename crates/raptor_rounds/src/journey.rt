@@ -6,7 +6,8 @@ ghost use Rattle.otp_model.specs.declared.journey.Request.{Request as RequestOf}
 ghost use Rattle.otp_model.specs.declared.timetable.Edges.{Edges as EdgesOf};
 ghost use Rattle.raptor_rounds.specs.declared.node.Final.{Final as FinalOf};
 ghost use Rattle.raptor_rounds.specs.Labels.{HasChain, IsChain, IsFound, IsHopOf, KeepsHop};
-ghost use Rattle.raptor_rounds.specs.States.{IsSearched, arena_of, finals_of};
+ghost use Rattle.raptor_rounds.specs.States.{arena_of, finals_of};
+ghost use Rattle.raptor_rounds.specs.Searched.{IsSearched};
 
 use crate::node::Node;
 use crate::state::RoundState;

@@ -3,8 +3,11 @@
 
 mod bags;
 mod board;
+mod fronts;
 mod journey;
 mod laws;
+mod lost;
+mod marks;
 mod moments;
 mod node;
 mod offer;

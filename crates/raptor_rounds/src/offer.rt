@@ -7,6 +7,8 @@ ghost use Rattle.raptor_rounds.specs.Rides.{IsNodeInRange};
 ghost use Rattle.raptor_rounds.specs.States.{IsEntryOf, IsItself, IsOpenAt, Settles};
 
 use crate::bags::{is_met, put_label};
+use crate::fronts::note_finals;
+use crate::lost::is_lost_label;
 use crate::node::{Final, Node};
 use crate::state::RoundState;
 use otp_base::{Memory, push_some};
@@ -14,7 +16,7 @@ use otp_model::{Request, Value};
 use std::alloc::Global;
 use walk_table::Reach;
 
-/// Keeps a label and its finals, unless some label is no worse.
+/// Keeps a label and its finals, unless it is lost or some label is no worse.
 pub fn offer(
     alloc: Global,
     request: &Request,
@@ -26,13 +28,18 @@ pub fn offer(
     requires open { IsOpenAt request.now node.now.departure state.old }
     ensures { OnOk result (Settles request.now node.now.departure (IsEntryOf node.now) (IsItself node.now) state.old state.new) }
 {
+    if is_lost_label(request, node, state) {
+        return Ok(());
+    }
     if is_met(&state.bags, node) {
         return Ok(());
     }
     let number = state.arena.len();
     put_label(alloc, node, number, &mut state.bags)?;
     state.arena.push(*node)?;
-    push_finals(request, node, number, &state.egress, &mut state.finals)?;
+    let count = state.finals.len();
+    push_finals(request, node, number, &state.aim.egress, &mut state.finals)?;
+    note_finals(&state.finals, count, &mut state.fronts)?;
     Ok(())
 }
 

@@ -1,7 +1,7 @@
-ghost use Rattle.std.specs.Prelude.{◌≡◌, ◌↔◌, ◌+◌, ◌<◌, ◌≤◌, max, pos, ◌+ℤ◌, IsTrue, MatchOption};
+ghost use Rattle.std.specs.Prelude.{◌≡◌, ◌↔◌, ◌+◌, ◌<◌, ◌≤◌, max, pos, ◌+ℤ◌, ◌≤ℤ◌, IsTrue, MatchOption};
 ghost use Rattle.otp_model.specs.Beginnings.{hop_penalty as penalty_of};
 ghost use Rattle.otp_model.specs.Ranges.{IsRequestInRange, IsTime};
-ghost use Rattle.raptor_rounds.specs.Rides.{IsNodeInRange, IsReadyFor, IsReadyInRange, most_hop, ready_by as ready_over};
+ghost use Rattle.raptor_rounds.specs.Rides.{IsNodeInRange, IsReadyFor, IsReadyInRange, most_departure, most_hop, ready_by as ready_over};
 
 use crate::node::Node;
 use otp_model::{Edge, Request, StopNo, Time};
@@ -48,6 +48,9 @@ fn is_time(time: &Time) -> bool
     *time >= -MOST_TIME && *time <= MOST_TIME
 }
 
+/// A departure that is searched, either way.
+pub const MOST_DEPARTURE: i64 = 1 << 43;
+
 /// A time that is searched, either way.
 const MOST_TIME: i64 = 1 << 42;
 
@@ -92,7 +95,8 @@ pub fn ready_by(request: &Request, number: usize, node: &Node, edge: &Edge) -> R
 /// When the change is over.
 fn time_after(request: &Request, node: &Node, edge: &Edge) -> Time
     requires { IsTime node.now.time }
-    ensures { result ≡ node.now.time +ℤ pos (max (edge.now.walk + request.now.slack) edge.now.minimum) }
+    ensures value { result ≡ node.now.time +ℤ pos (max (edge.now.walk + request.now.slack) edge.now.minimum) }
+    ensures soon { result ≤ℤ pos most_departure }
 {
     let change = (u64::from(edge.walk) + u64::from(request.slack)).max(u64::from(edge.minimum));
     node.time + change as i64

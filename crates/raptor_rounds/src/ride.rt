@@ -2,14 +2,16 @@ ghost use Rattle.std.specs.Prelude.{◌≡◌, ◌↔◌, ◌+◌, ◌<◌, ◌�
 ghost use Rattle.otp_base.specs.Adds.{FromBelow};
 ghost use Rattle.trip_patterns.specs.Lanes.{IsFirstCatch};
 ghost use Rattle.raptor_rounds.specs.Rides.{AlightsAt, Catches, IsBoarded, IsReadyInRange, IsRiddenOn, IsTimelyLane, IsUntil, StopsAt, node_at as node_of};
-ghost use Rattle.raptor_rounds.specs.States.{IsOpenAt, Settles};
+ghost use Rattle.raptor_rounds.specs.RunBounds.{IsLaneBound};
+ghost use Rattle.raptor_rounds.specs.States.{IsOpenAt, Settles, bounds_of};
 
+use crate::lost::is_lost_from;
 use crate::node::Node;
 use crate::offer::offer;
 use crate::ready::{LanePlace, Ready};
 use crate::state::RoundState;
 use otp_base::Memory;
-use otp_model::{Call, Request};
+use otp_model::{Call, Request, Time};
 use std::alloc::Global;
 use trip_patterns::Lane;
 
@@ -26,6 +28,7 @@ pub fn board_lane(
     requires stops { StopsAt at.now.position ready.now.stop lane.now }
     requires ready { IsReadyInRange request.now ready.now }
     requires open { IsOpenAt request.now ready.now.departure state.old }
+    requires bounds { IsLaneBound request.now (bounds_of state.old) at.now.block lane.now }
     ensures { OnOk result (Settles request.now ready.now.departure (Catches lane.now ready.now at.now.position) (IsRiddenOn lane.now ready.now at.now.block at.now.lane) state.old state.new) }
 {
     if !lane.may_board(at.position) {
@@ -35,7 +38,18 @@ pub fn board_lane(
     if row >= lane.rows() {
         return Ok(());
     }
-    if !is_until(ready, &lane.call(row, at.position)) {
+    let board = lane.call(row, at.position);
+    if !is_until(ready, &board.departure) {
+        return Ok(());
+    }
+    if is_lost_from(
+        request,
+        ready,
+        at.block,
+        at.position,
+        &board.departure,
+        state,
+    ) {
         return Ok(());
     }
     ride(alloc, request, lane, ready, at, row, state)?;
@@ -50,13 +64,13 @@ fn first_in_time(lane: &Lane, ready: &Ready, position: usize) -> usize
     lane.first_catch(position, ready.time)
 }
 
-/// Whether the call departs no later than the latest moment.
-fn is_until(ready: &Ready, board: &Call) -> bool
-    ensures { IsTrue result ↔ IsUntil ready.now.latest board.now.departure }
+/// Whether the time is no later than the latest moment.
+pub fn is_until(ready: &Ready, time: &Time) -> bool
+    ensures { IsTrue result ↔ IsUntil ready.now.latest time.now }
 {
     match ready.latest {
         None => true,
-        Some(latest) => board.departure <= latest,
+        Some(latest) => *time <= latest,
     }
 }
 

@@ -25,7 +25,7 @@ record ArePlacesSoFar (blocks : List (List LaneOf)) (stop block position : ℕ) 
   once : AllPairs (λ (a b : BlockStop). a ≢ b) places
 
 -- each lane of a block has the block's pattern
-same_pattern : (lanes : List LaneOf) (lane : LaneOf) → IsBlock lanes → Contains lanes lane → lane.pattern ≡ block_pattern lanes
+pub same_pattern : (lanes : List LaneOf) (lane : LaneOf) → IsBlock lanes → Contains lanes lane → lane.pattern ≡ block_pattern lanes
 same_pattern [] lane is at = absurd (let less = at.1 in omega arith)
 same_pattern (first ∷ lanes) lane is (zero, less, same) = ap (λ (l : LaneOf). l.pattern) (sym same)
 same_pattern (first ∷ lanes) lane is (suc k, less, same) =

@@ -6,5 +6,6 @@ mod PlaceLemmas
 mod RenewLemmas
 mod RowLemmas
 mod SearchLemmas
+mod ShapingLemmas
 mod TakeLemmas
 mod TouchLemmas

@@ -31,7 +31,7 @@ put_at {X} xs n k x less = elim (cases_eq n k) [
       ∙ ap (λ (b : Bool). get_or xs k [] ++ cond b (x ∷ []) []) (sym (ne_eqb n k other))
 ]
 
-range_more : (n : ℕ) → range_with_len 0 (n + 1) ≡ range_with_len 0 n ++ n ∷ []
+pub range_more : (n : ℕ) → range_with_len 0 (n + 1) ≡ range_with_len 0 n ++ n ∷ []
 range_more n = sym (map-id (range_with_len 0 (n + 1))) ∙ map-range_with_len_more (λ (k : ℕ). k) 0 n n (omega arith) ∙ ap (λ (xs : List ℕ). xs ++ n ∷ []) (map-id (range_with_len 0 n))
 
 abbrev pub place_at : ℕ → ℕ → BlockStop

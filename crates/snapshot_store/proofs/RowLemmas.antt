@@ -55,14 +55,18 @@ kept_none changes runs n run start before at is so =
     ∙ ap (λ b. kept changes (take n runs) ++ cond (not b) (run ∷ []) []) (sym is) ∙ sym (kept_more changes runs n run at))
 
 -- the rows of one lane more
+pub rows_more : (lanes : List LaneOf) (n : ℕ) (lane : LaneOf) → n < length lanes → lane ≡ get_or lanes n lane → rows_of (take (n + 1) lanes) ≡ rows_of (take n lanes) ++ lane.runs
+rows_more lanes n lane less read =
+    ap rows_of (take_more lanes n lane less) ∙ flat_map-append (λ (l : LaneOf). l.runs) (take n lanes) (get_or lanes n lane ∷ [])
+    ∙ ap (λ (xs : List Run). rows_of (take n lanes) ++ xs) (append-nil (get_or lanes n lane).runs ∙ ap (λ (l : LaneOf). l.runs) (sym read))
+
+-- those of them that are kept
 pub kept_lane : (changes : List Change) (lanes : List LaneOf) (n : ℕ) (lane : LaneOf) (start before after : List Run) → n < length lanes → lane ≡ get_or lanes n lane
     → before ≡ start ++ kept changes (rows_of (take n lanes)) → after ≡ before ++ kept changes lane.runs → after ≡ start ++ kept changes (rows_of (take (n + 1) lanes))
 kept_lane changes lanes n lane start before after less read so more =
-    let parts : rows_of (take (n + 1) lanes) ≡ rows_of (take n lanes) ++ lane.runs
-    = ap rows_of (take_more lanes n lane less) ∙ flat_map-append (λ (l : LaneOf). l.runs) (take n lanes) (get_or lanes n lane ∷ [])
-    ∙ ap (λ (xs : List Run). rows_of (take n lanes) ++ xs) (append-nil (get_or lanes n lane).runs ∙ ap (λ (l : LaneOf). l.runs) (sym read)) in
     more ∙ ap (λ (xs : List Run). xs ++ kept changes lane.runs) so ∙ append_assoc start (kept changes (rows_of (take n lanes))) (kept changes lane.runs)
-    ∙ ap (λ (xs : List Run). start ++ xs) (sym (ap (kept changes) parts ∙ filter-append (is_kept changes) (rows_of (take n lanes)) lane.runs))
+    ∙ ap (λ (xs : List Run). start ++ xs)
+    (sym (ap (kept changes) (rows_more lanes n lane less read) ∙ filter-append (is_kept changes) (rows_of (take n lanes)) lane.runs))
 
 -- no change leaves all runs
 pub kept_all : (runs : List Run) → kept [] runs ≡ runs

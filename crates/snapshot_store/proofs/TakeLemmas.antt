@@ -1,5 +1,5 @@
 -- Runs that changes touch, and what is counted where blocks are made anew.
-use Rattle.std.proofs.Common.{◌≡◌, ℕ, zero, suc, ◌+◌, ◌*◌, ◌<◌, ◌≤◌, Bool, IsTrue, true, false, cond, not, ◌&&◌, ◌||◌, List, [], ◌∷◌, ◌++◌, length, take, get_or, Option, Some, None, refl, sym, ap, subst, ◌∙◌, arith, inl, inr, ◌⊎◌, zero-add}
+use Rattle.std.proofs.Common.{◌≡◌, ℕ, zero, suc, ◌+◌, ◌*◌, ◌<◌, ◌≤◌, Bool, IsTrue, true, false, cond, not, ◌&&◌, ◌||◌, List, [], ◌∷◌, ◌++◌, length, get_or, Option, Some, None, refl, sym, ap, subst, ◌∙◌, arith, inl, inr, ◌⊎◌, zero-add}
 use Rattle.std.specs.List.{All, filter, flat_map, list_any, sum_by}
 use Rattle.std.specs.List.Sorted.{IsPermutation}
 use Rattle.std.specs.Ordering.{int_cmp, int_eq, is_eq, nat_cmp}
@@ -7,11 +7,10 @@ use Rattle.std.specs.declared.cmp.Ordering.{Ordering}
 use Rattle.std.specs.declared.cmp.Ordering.TheVariants.{Less, Equal, Greater}
 use Rattle.std.proofs.lemmas.Bool.{eq-eqb}
 use Rattle.std.proofs.lemmas.Cmp.{int_eq_equiv, tied_itself}
-use Rattle.std.proofs.lemmas.List.{append-nil, append_assoc, get_or_default, take_all, take_more}
-use Rattle.std.proofs.lemmas.List.Concat.{flat_map-append}
-use Rattle.std.proofs.lemmas.List.Elements.{All-append, All-cons, All-filter, All-head, All-nil, All-push, All-tail, All-weaker, filter-append}
+use Rattle.std.proofs.lemmas.List.{get_or_default}
+use Rattle.std.proofs.lemmas.List.Elements.{All-append, All-cons, All-head, All-nil, All-tail, All-weaker, filter-append}
 use Rattle.std.proofs.lemmas.List.Folds.{Any-from_list_any, list_any-append, list_any_at}
-use Rattle.std.proofs.lemmas.List.Sorted.{IsPermutation-append, IsPermutation-append_comm, IsPermutation-append_left, IsPermutation-append_right, IsPermutation-refl, IsPermutation-trans, All-permutation, list_any-IsPermutation, sum_by-IsPermutation}
+use Rattle.std.proofs.lemmas.List.Sorted.{IsPermutation-append_right, All-permutation, list_any-IsPermutation, sum_by-IsPermutation}
 use Rattle.std.proofs.lemmas.List.Sums.{sum_by-append, sum_by-cons}
 use Rattle.otp_model.specs.Patterns.{Spot, is_changed, is_of_one_block, is_same_flag, is_same_pattern, is_same_spot, is_touched, pattern_of, run_changed, touched, with_changes}
 use Rattle.otp_model.specs.Resolution.{is_same_name}
@@ -24,8 +23,8 @@ use Rattle.otp_model.proofs.NameLemmas.{run_name_cmp_total}
 use Rattle.otp_model.proofs.Values.{int_equal, nat_equal, then_equal}
 use Rattle.trip_patterns.specs.FirstFit.{IsOfLane, rows_of}
 use Rattle.trip_patterns.specs.Lanes.{IsLane, LaneOf, empty_lane}
-use Rattle.trip_patterns.specs.Timetables.{IsBlock, IsSameBlock, StandsFor}
-use Rattle.snapshot_store.specs.Changing.{is_kept, kept}
+use Rattle.trip_patterns.specs.Timetables.{IsBlock, IsSameBlock}
+use Rattle.snapshot_store.specs.Changing.{kept}
 use Rattle.snapshot_store.specs.Order.{flag_number, is_of_lanes, lane_cmp, pattern_cmp, spot_number}
 
 -- equal numbers are those of one spot

@@ -3,4 +3,5 @@ pub mod Grouping
 pub mod Marks
 pub mod Order
 pub mod Places
+pub mod Shaping
 pub mod Snapshots

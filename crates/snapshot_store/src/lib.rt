@@ -8,6 +8,7 @@ mod order;
 mod places;
 mod renewing;
 mod rows;
+mod shaping;
 mod snapshot;
 mod touching;
 

@@ -153,7 +153,7 @@ fn compare_patterns<A: AtSpot, B: AtSpot>(pattern: &[A], other: &[B]) -> Orderin
 }
 
 /// A number that tells a spot from all others.
-fn spot_number(spot: &Spot) -> u64
+pub fn spot_number(spot: &Spot) -> u64
     ensures { result ≡ number_of spot.now }
 {
     4 * u64::from(spot.stop()) + 2 * u64::from(spot.may_board()) + u64::from(spot.may_alight())

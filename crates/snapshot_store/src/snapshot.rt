@@ -1,13 +1,15 @@
-ghost use Rattle.std.specs.Prelude.{◌≡◌, ◌+◌, ◌++◌, ◌<◌, ◌≤◌, IfOk, OnOk, length, map, sum_by};
+ghost use Rattle.std.specs.Prelude.{◌≡◌, ◌+◌, ◌++◌, ◌<◌, ◌≤◌, IfOk, OnOk, length, map, slice_index, sum_by};
 ghost use Rattle.std.specs.Arc.{arc_value};
 ghost use Rattle.std.specs.List.{All, AllPairs, flat_map};
 ghost use Rattle.std.specs.List.Sorted.{IsPermutation};
 ghost use Rattle.otp_model.specs.Patterns.{touched, with_changes as runs_with};
 ghost use Rattle.trip_patterns.specs.FirstFit.{rows_of};
+ghost use Rattle.trip_patterns.specs.Shapes.{HaveShapes};
 ghost use Rattle.trip_patterns.specs.Timetables.{IsBlock, StandsFor};
 ghost use Rattle.snapshot_store.specs.Changing.{IsChangeBelow};
 ghost use Rattle.snapshot_store.specs.Order.{AreInOrder};
 ghost use Rattle.snapshot_store.specs.Places.{IsIndex};
+ghost use Rattle.snapshot_store.specs.Shaping.{AreSpans};
 
 use crate::changed::Changed;
 use crate::grouping::blocks_of;
@@ -15,13 +17,14 @@ use crate::order::{sort_blocks, sort_by_block};
 use crate::places::places_of;
 use crate::renewing::renewed_blocks;
 use crate::rows::{changed_runs, copied_runs, put_kept};
+use crate::shaping::{shapes_of, spans_of};
 use otp_base::{List, Memory, Steps};
 use otp_model::{Change, Feed, Run, StopNo};
 use std::alloc::Global;
 use std::marker::Brand;
 use std::sync::Arc;
 use std::sync::ledger::{Blank, Ledger};
-use trip_patterns::{BlockStop, Lane, Timetable};
+use trip_patterns::{BlockStop, Lane, Shape, Span, Timetable};
 
 /// The lanes of one pattern and day.
 pub type Block = List<Lane>;
@@ -33,9 +36,18 @@ pub struct Snapshot {
     blocks: Vec<Arc<Block>>,
     /// By stop.
     places: Vec<List<BlockStop>>,
+    /// Those of the patterns of the blocks.
+    shapes: Vec<Shape>,
+    /// By block, the number of its shape.
+    shape_of: Vec<usize>,
+    /// By block.
+    spans: Vec<Span>,
     ghost blocks_are: { All IsBlock (map arc_value blocks.items) },
     pub ghost in_order: { AreInOrder (map arc_value blocks.items) },
     ghost indexed: { IsIndex (map arc_value blocks.items) places.items },
+    ghost shaped: { HaveShapes (map arc_value blocks.items) shapes.items (slice_index shape_of.items) },
+    ghost numbered: { length shape_of.items ≡ length blocks.items },
+    ghost spanned: { AreSpans (map arc_value blocks.items) spans.items },
 }
 
 impl Snapshot {
@@ -88,7 +100,15 @@ impl Snapshot {
         let mut blocks = blocks;
         sort_blocks(&mut blocks)?;
         let places = places_of(alloc, &blocks)?;
-        Ok(Snapshot { blocks, places })
+        let spans = spans_of(alloc, &blocks)?;
+        let made = shapes_of(alloc, &blocks)?;
+        Ok(Snapshot {
+            blocks,
+            places,
+            shapes: made.shapes,
+            shape_of: made.numbers,
+            spans,
+        })
     }
 
     /// The runs of the schedule that it stands for, each once.
@@ -106,11 +126,15 @@ impl Snapshot {
 
 impl Timetable for Snapshot {
     ghost use Rattle.std.proofs.lemmas.List.Sorted.{IsPermutation-refl};
-    ghost use Rattle.snapshot_store.specs.Snapshots.{blocks_of as blocks_in, runs_of};
+    ghost use Rattle.snapshot_store.specs.Snapshots.{blocks_of as blocks_in, runs_of, shape_at as shape_number, shapes_of as shapes_in};
 
     ghost runs = { runs_of };
 
     ghost blocks = { blocks_in };
+
+    ghost shapes = { shapes_in };
+
+    ghost shape_at = { shape_number };
 
     fn block_count(&self) -> usize {
         self.blocks.len()
@@ -127,5 +151,23 @@ impl Timetable for Snapshot {
         }
     }
 
+    fn shape_count(&self) -> usize {
+        self.shapes.len()
+    }
+
+    fn shape(&self, n: usize) -> &Shape {
+        &self.shapes[n]
+    }
+
+    fn shape_of(&self, block: usize) -> usize {
+        self.shape_of[block]
+    }
+
+    fn span(&self, block: usize) -> Span {
+        self.spans[block]
+    }
+
     ghost stands = { λ t. record { blocks_are = t.blocks_are; rows = IsPermutation-refl (runs_of t) } };
+
+    ghost fits = { λ t. t.shaped };
 }

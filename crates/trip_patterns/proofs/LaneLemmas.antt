@@ -16,7 +16,7 @@ use Rattle.trip_patterns.specs.Lanes.{IsLane, IsNoEarlier, LaneOf, with_run}
 use Rattle.trip_patterns.specs.Rows.{AreRows, IsBehindLast, IsLastBefore, IsRow, IsRowBefore, IsRowOf, lane_of, run_of}
 use Rattle.trip_patterns.proofs.CallLemmas.{no_earlier, own_row, own_run}
 
-same_wide : (pattern : List Spot) (run : Run) → pattern_of run ≡ pattern → length run.calls ≡ length pattern
+pub same_wide : (pattern : List Spot) (run : Run) → pattern_of run ≡ pattern → length run.calls ≡ length pattern
 same_wide pattern run of = sym (length-map run.calls spot_of) ∙ ap length of
 
 le_trans_z : (a b c : ℤ) → a ≤ℤ b → b ≤ℤ c → a ≤ℤ c

@@ -1,12 +1,11 @@
 -- Least times, with one more row, and as bounds.
-use Rattle.std.proofs.Common.{◌≡◌, ℕ, zero, suc, ◌+◌, ◌≤◌, min, ℤ, pos, negsuc, ◌+ℤ◌, ◌-ℤ◌, ◌≤ℤ◌, ◌<ℤ◌, List, [], ◌∷◌, ◌++◌, length, Some, None, refl, sym, ap, subst, ◌∙◌, arith, unsigned_abs}
+use Rattle.std.proofs.Common.{◌≡◌, ℕ, zero, suc, ◌+◌, ◌≤◌, min, ℤ, pos, negsuc, ◌+ℤ◌, ◌-ℤ◌, ◌≤ℤ◌, ◌<ℤ◌, List, [], ◌∷◌, ◌++◌, length, get_or, Some, None, refl, sym, ap, subst, ◌∙◌, arith, unsigned_abs}
 use Rattle.std.proofs.lemmas.Int.{ints}
 use Rattle.std.proofs.Math.Nat.{min-le_left, min-le_right, min_comm}
 use Rattle.std.specs.List.{slice_get}
 use Rattle.std.proofs.lemmas.List.{with_items_is}
 use Rattle.std.specs.Global.{Vec}
 use Rattle.std.specs.Vec.{with_items}
-use Rattle.otp_model.specs.declared.timetable.Call.{Call}
 use Rattle.otp_model.specs.declared.timetable.Run.{Run}
 use Rattle.trip_patterns.specs.Hops.{AreLeast, IsDwellBound, IsHopBound, IsLowered, positive_part, dwell_at, dwell_in, hop_between, hop_in, least, least_dwell, least_hop, most_seconds, seconds_between}
 
@@ -20,6 +19,10 @@ least_more time (first ∷ runs) run = ap (min (time first)) (least_more time ru
 pub least_most : (time : Run → ℕ) (runs : List Run) → least time runs ≤ most_seconds
 least_most time [] = omega arith
 least_most time (run ∷ runs) = omega (arith, least_most time runs, min-le_right (time run) (least time runs))
+
+pub least_append : (time : Run → ℕ) (runs more : List Run) → least time (runs ++ more) ≡ min (least time runs) (least time more)
+least_append time [] more = omega (arith, least_most time more)
+least_append time (run ∷ runs) more = ap (min (time run)) (least_append time runs more) ∙ lesser (time run) (least time runs) (least time more)
 
 pub least_under : (time : Run → ℕ) (runs : List Run) (row : ℕ) (run : Run) → slice_get runs row ≡ Some run → least time runs ≤ time run
 least_under time [] row run at = absurd (let e : None ≡ Some run = at in cc)
@@ -88,6 +91,21 @@ least_lowered positions runs run hops dwells hops' dwells' are hop dwell = recor
       ∙ sym (least_more (λ (r : Run). dwell_in r.calls k) runs run);
 }
 
+-- lowered to the least times of more rows, least times are those of all
+pub least_joined : (positions : ℕ) (runs more : List Run) (hops dwells hops' dwells' own others : List ℕ) → AreLeast positions runs hops dwells
+    → AreLeast positions more own others → IsLowered (λ k. get_or own k 0) hops hops' → IsLowered (λ k. get_or others k 0) dwells dwells'
+    → AreLeast positions (runs ++ more) hops' dwells'
+least_joined positions runs more hops dwells hops' dwells' own others are others-are hop dwell = record {
+  hop_count = hop.len ∙ are.hop_count;
+  dwell_count = dwell.len ∙ are.dwell_count;
+  hops_are = λ k less.
+      hop.each k (omega (arith, are.hop_count)) ∙ ap (λ n. min n (get_or own k 0)) (are.hops_are k less)
+      ∙ ap (min (least_hop runs k)) (others-are.hops_are k less) ∙ sym (least_append (λ (r : Run). hop_in r.calls k) runs more);
+  dwells_are = λ k less.
+      dwell.each k (omega (arith, are.dwell_count)) ∙ ap (λ n. min n (get_or others k 0)) (are.dwells_are k less)
+      ∙ ap (min (least_dwell runs k)) (others-are.dwells_are k less) ∙ sym (least_append (λ (r : Run). dwell_in r.calls k) runs more);
+}
+
 pub least_hop_most : (runs : List Run) (position : ℕ) → least_hop runs position ≤ most_seconds
 least_hop_most runs position = least_most (λ (run : Run). hop_in run.calls position) runs
 
@@ -95,10 +113,10 @@ pub least_dwell_most : (runs : List Run) (position : ℕ) → least_dwell runs p
 least_dwell_most runs position = least_most (λ (run : Run). dwell_in run.calls position) runs
 
 -- what is lowered, by other names
-pub same_lowered : (time : List Call → ℕ → ℕ) (read calls : List Call) (was old new : List ℕ) → read ≡ calls → was ≡ old
+pub same_lowered : {A : Type 0} (time : List A → ℕ → ℕ) (read calls : List A) (was old new : List ℕ) → read ≡ calls → was ≡ old
     → IsLowered (time read) was new → IsLowered (time calls) old new
-same_lowered time read calls was old new same_calls same_old lowered =
-    subst (λ (xs : List ℕ). IsLowered (time calls) xs new) same_old (subst (λ (cs : List Call). IsLowered (time cs) was new) same_calls lowered)
+same_lowered {A} time read calls was old new same_calls same_old lowered =
+    subst (λ (xs : List ℕ). IsLowered (time calls) xs new) same_old (subst (λ (cs : List A). IsLowered (time cs) was new) same_calls lowered)
 
 -- what holds of two columns holds of the vectors that they are written to
 pub write_back : (P : List ℕ → List ℕ → Type 0) (v w : Vec ℕ) (xs ys : List ℕ) → length xs ≡ length v.items → length ys ≡ length w.items

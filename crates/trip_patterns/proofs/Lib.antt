@@ -6,3 +6,5 @@ mod LaneLemmas
 mod LeastLemmas
 mod ReadLemmas
 mod RowLemmas
+mod ShapeLemmas
+mod SpanLemmas

@@ -3,4 +3,6 @@ pub mod Hops
 pub mod Lanes
 pub mod Putting
 pub mod Rows
+pub mod Shapes
+pub mod Spans
 pub mod Timetables

@@ -1,10 +1,12 @@
 ghost use Rattle.std.specs.Prelude.{◌≡◌, ◌<◌, ◌≤◌, IfSome, length, map, slice_get};
-ghost use Rattle.trip_patterns.specs.Hops.{IsDwellBound, IsHopBound, least_dwell, least_hop, most_seconds};
+ghost use Rattle.trip_patterns.specs.Hops.{AreLeast, IsDwellBound, IsHopBound, least_dwell, least_hop, most_seconds};
 ghost use Rattle.trip_patterns.specs.Lanes.{IsCallAt, IsFirstCatch, departure_at};
 ghost use Rattle.trip_patterns.specs.Rows.{IsWhole, column, columns as columns_of, lane_of};
+ghost use Rattle.trip_patterns.specs.Spans.{IsSpan};
 
 use crate::least::LeastTimes;
 use crate::row::Row;
+use crate::span::Span;
 use crate::spot::Spot;
 use lane_kernels::first_at_least;
 use otp_base::List;
@@ -163,6 +165,25 @@ impl Lane {
         ensures most { result ≤ most_seconds }
     {
         self.least.dwells[position]
+    }
+
+    /// The least times of its rows, by position.
+    pub(crate) fn least_times(&self) -> &LeastTimes
+        ensures { AreLeast (length self.now.pattern) self.now.runs result.now.hops.items result.now.dwells.items }
+    {
+        &self.least
+    }
+
+    /// When it departs: since no row overtakes another, from the first call of the first row to the last call of the last.
+    pub fn span(&self) -> Span
+        ensures { IsSpan self.now.runs result }
+    {
+        let rows = self.rows.len();
+        let positions = self.pattern.len();
+        if rows == 0 || positions == 0 {
+            return Span::of_none();
+        }
+        Span::between(&self.call(0, 0), &self.call(rows - 1, positions - 1))
     }
 
     /// The first row that departs from the call at a position at a time or later, or the number of rows where none does.

@@ -1,4 +1,4 @@
-ghost use Rattle.std.specs.Prelude.{◌≡◌, ◌<◌, [], IfOk, length};
+ghost use Rattle.std.specs.Prelude.{◌≡◌, ◌<◌, [], IfOk, length, slice_index};
 ghost use Rattle.trip_patterns.specs.Hops.{AreLeast, IsLowered, dwell_in, hop_in, seconds_between as seconds_of};
 
 use otp_base::Memory;
@@ -44,6 +44,16 @@ pub fn lower_dwells(dwells: &mut [u32], calls: &[Call])
 {
     for position in 0..calls.len() {
         dwells[position] = dwells[position].min(dwell(calls, position));
+    }
+}
+
+/// Lowers each time to another at its position.
+pub fn lower(times: &mut [u32], others: &[u32])
+    requires { length times.old ≡ length others.now }
+    ensures { IsLowered (slice_index others.now) times.old times.new }
+{
+    for position in 0..others.len() {
+        times[position] = times[position].min(others[position]);
     }
 }
 

@@ -10,6 +10,8 @@ mod fitting;
 mod lane;
 mod least;
 mod row;
+mod shape;
+mod span;
 mod spot;
 mod timetable;
 
@@ -17,5 +19,7 @@ pub use blocks::{are_of_one_block, is_of_block};
 pub use builder::LaneBuilder;
 pub use first_fit::lanes_of;
 pub use lane::Lane;
+pub use shape::{Shape, fits_its_shape};
+pub use span::{Span, span_of};
 pub use spot::Spot;
 pub use timetable::{BlockStop, Timetable};

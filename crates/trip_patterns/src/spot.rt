@@ -58,4 +58,10 @@ impl Spot {
     {
         self.stop == call.stop && self.board == call.board && self.alight == call.alight
     }
+
+    pub fn is_same(&self, other: &Spot) -> bool
+        ensures { IsTrue result ↔ (self.now ≡ other.now) }
+    {
+        self.stop == other.stop && self.board == other.board && self.alight == other.alight
+    }
 }

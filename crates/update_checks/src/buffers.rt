@@ -1,10 +1,12 @@
-ghost use Rattle.std.specs.Prelude.{◌≡◌, length};
+ghost use Rattle.std.specs.Prelude.{◌≡◌, ◌≤◌, length};
 ghost use Rattle.otp_model.specs.Sound.{IsSound};
+ghost use Rattle.change_buffer.specs.Forms.{AreResolved};
 
 use crate::sample::{entity, feed};
 use change_buffer::{Buffer, OfferFault};
 use otp_base::{List, Memory, Text};
 use otp_model::{Change, Event, Feed, Message, StopUpdate};
+use rt_resolve::{Resolved, resolve};
 use std::alloc::Global;
 use std::test::Fail;
 
@@ -106,12 +108,15 @@ fn commit(
 ) -> Result<Vec<Option<i64>>, Fail>
     requires sound { IsSound feed.now }
     requires two { length buffer.old ≡ 2 }
-    ensures { length buffer.new ≡ 2 }
+    requires resolved { AreResolved feed.now buffer.old }
+    ensures two { length buffer.new ≡ 2 }
+    ensures resolved { AreResolved feed.now buffer.new }
 {
     if feed_no < 1 || feed_no > 2 {
         return Err(Fail::new("there are two feeds"));
     }
-    buffer.offer(feed_no, message)?;
+    let Resolved { changes, .. } = resolve(alloc, feed, &message)?;
+    buffer.offer(feed_no, message, changes)?;
     let prepared = buffer.prepare(alloc, feed)?;
     buffer.settle();
     let mut arrivals = Vec::new(alloc);
@@ -151,21 +156,35 @@ fn tells_what_each_commit_changes(rt: HostRuntime) -> Result<(), Fail> {
     Ok(())
 }
 
+/// Offers a message that says nothing.
+fn offer(
+    alloc: Global,
+    buffer: &mut Buffer,
+    feed_no: u32,
+    timestamp: Option<u64>,
+) -> Result<u64, OfferFault>
+    requires first { 1 ≤ feed_no }
+    requires last { feed_no ≤ length buffer.old }
+    ensures { length buffer.new ≡ length buffer.old }
+{
+    buffer.offer(feed_no, message(alloc, timestamp), List::new(alloc))
+}
+
 #[test]
 fn keeps_the_timestamp_and_the_count_of_each_feed(rt: HostRuntime) -> Result<(), Fail> {
     let alloc = rt.alloc();
     let mut buffer = Buffer::new(alloc, 2)?;
     assert!(rt; !buffer.pending());
-    assert_eq!(rt; buffer.offer(1, message(alloc, Some(100))), Ok(1));
-    assert_eq!(rt; buffer.offer(1, message(alloc, None)), Ok(2));
+    assert_eq!(rt; offer(alloc, &mut buffer, 1, Some(100)), Ok(1));
+    assert_eq!(rt; offer(alloc, &mut buffer, 1, None), Ok(2));
     assert_eq!(rt;
-        buffer.offer(1, message(alloc, Some(99))),
+        offer(alloc, &mut buffer, 1, Some(99)),
         Err(OfferFault::Older { have: 100 })
     );
-    assert_eq!(rt; buffer.offer(2, message(alloc, Some(99))), Ok(1));
+    assert_eq!(rt; offer(alloc, &mut buffer, 2, Some(99)), Ok(1));
     assert!(rt; buffer.pending());
     buffer.settle();
     assert!(rt; !buffer.pending());
-    assert_eq!(rt; buffer.offer(1, message(alloc, Some(100))), Ok(3));
+    assert_eq!(rt; offer(alloc, &mut buffer, 1, Some(100)), Ok(3));
     Ok(())
 }

@@ -1,7 +1,7 @@
 use Rattle.std.proofs.Common.{◌∙◌, ap, List, subst, sym}
 use Rattle.otp_model.specs.declared.change.Change.{Change}
 use Rattle.change_buffer.specs.Forms.{AreRising, HasRising, changes_now, form_in}
-use Rattle.change_buffer.specs.declared.feed_changes.FeedChanges.{FeedChanges}
+use Rattle.change_buffer.specs.declared.feed_state.FeedState.{FeedState}
 use Rattle.change_buffer.proofs.StepLemmas.{form_found, form_or, given_read}
 use Rattle.change_buffer.proofs.forms.change_now.Goals as goal
 
@@ -14,4 +14,4 @@ pub loop-feed-preserved : goal.loop-feed-preserved
 loop-feed-preserved c =
     let found = form_found c.change_named.result c.now.result.now c.args.name.now c.change_named.ensures ∙ ap (λ (changes : List Change). form_in changes c.args.name.now) c.now.ensures in
     form_or c.change_named.result c.loop-feed.last c.or-last.result c.or-last.ensures
-    ∙ given_read (λ (changes : FeedChanges). form_in (changes_now changes) c.args.name.now) _ _ c.args.feeds.now c.loop-feed.feed-index c.feed-item.result c.loop-feed-test.true c.feed-item.is found c.loop-feed.invariant
+    ∙ given_read (λ (state : FeedState). form_in (changes_now state.said) c.args.name.now) _ _ c.args.feeds.now c.loop-feed.feed-index c.feed-item.result c.loop-feed-test.true c.feed-item.is found c.loop-feed.invariant

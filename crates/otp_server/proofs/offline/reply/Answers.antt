@@ -1,4 +1,4 @@
-use Rattle.std.proofs.Common.{IfErr, IfOk, IsSomeAnd, List, map, refl, string_bytes, subst}
+use Rattle.std.proofs.Common.{IfErr, IfOk, IsSomeAnd, List, map, refl, rules, string_bytes, subst}
 use Rattle.std.proofs.lemmas.Result.{IfErr-weaker, IfOk-weaker}
 use Rattle.command_words.specs.Commands.{IsTask, task_of}
 use Rattle.command_words.specs.Messages.{all_asked}
@@ -6,7 +6,7 @@ use Rattle.command_words.specs.declared.command.Command.{Command}
 use Rattle.command_words.specs.declared.messages.MessageWord.{MessageWord}
 use Rattle.otp_server.specs.Commands.{Checks, IsFeedFault, IsPlanFault, Plans}
 use Rattle.otp_server.specs.Offline.{IsDone, IsRefused}
-use Rattle.otp_server.proofs.AnswerFacts.{check_done, check_refused, plan_done, plan_refused}
+use Rattle.otp_server.proofs.AnswerFacts.{check_done, check_refused, none_refused, plan_done, plan_refused, serve_refused}
 use Rattle.otp_server.proofs.offline.reply.Goals as goal
 
 pub returns-in-Ok-Check-clause-done : goal.returns-in-Ok-Check-clause-done
@@ -36,3 +36,11 @@ returns-in-Ok-Plan-clause-refused g c =
     IfErr-weaker c.plan.result (IsPlanFault (g.F.Folder.files c.args.folder.now) c.in-Ok-Plan.path.now c.in-Ok-Plan.options (all_asked c.in-Ok-Plan.messages.items) c.in-Ok-Plan.query.now) (IsRefused (g.F.Folder.files c.args.folder.now) (map string_bytes c.args.words.now))
     (λ why h. plan_refused (g.F.Folder.files c.args.folder.now) (map string_bytes c.args.words.now) c.in-Ok-Plan.path c.in-Ok-Plan.query c.in-Ok-Plan.messages c.in-Ok-Plan.options why _ refl asked h)
     (subst (λ (messages : List MessageWord). IfErr c.plan.result (IsPlanFault (g.F.Folder.files c.args.folder.now) c.in-Ok-Plan.path.now c.in-Ok-Plan.options (all_asked messages) c.in-Ok-Plan.query.now)) c.deref.ensures.value c.plan.ensures.refused)
+
+pub returns-in-Ok-Serve-clause-refused : goal.returns-in-Ok-Serve-clause-refused
+returns-in-Ok-Serve-clause-refused g c =
+    let asked = subst (λ (command : Command). IsSomeAnd (task_of (map string_bytes c.args.words.now)) (IsTask command)) c.in-Ok-Serve.field-0-is c.in-Ok-Serve.ensures.reads in
+    serve_refused (task_of (map string_bytes c.args.words.now)) c.in-Ok-Serve._folder c.in-Ok-Serve._options c.in-Ok-Serve._serving asked
+
+pub returns-in-Err-Words-clause-refused : goal.returns-in-Err-Words-clause-refused
+returns-in-Err-Words-clause-refused g c = none_refused (task_of (map string_bytes c.args.words.now)) (search rules)

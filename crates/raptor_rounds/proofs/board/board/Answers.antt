@@ -1,3 +1,4 @@
+use Rattle.raptor_rounds.proofs.BoundLemmas.{bounds_stay}
 use Rattle.std.proofs.Common.{arith}
 use Rattle.otp_base.specs.Adds.{FromSome}
 use Rattle.raptor_rounds.specs.Rides.{Boards, CatchesAt, IsRidden}
@@ -21,3 +22,6 @@ returns g c =
     settles_for c.args.request.now b.departure (FromSome (CatchesAt blocks b) places) (Boards (g.T.Timetable.runs t) b) (IsRidden blocks b) (IsRidden blocks b) _ _
     (λ e q. boards_at_place blocks (g.T.Timetable.runs t) (g.met.T.Timetable.stands t) b places e c.blocks_at-place-items.ensures q) (λ n p. p)
     (settles_some_all c.args.request.now b.departure (CatchesAt blocks b) (IsRidden blocks b) places c.loop-place.place-index _ _ (omega arith) c.loop-place.invariant)
+
+pub board_place-requires-clause-bounds : goal.board_place-requires-clause-bounds
+board_place-requires-clause-bounds g c = bounds_stay (g.T.Timetable.blocks c.args.timetable.now) c.args.request.now c.args.state.now c.loop-place.state c.loop-place.invariant.aim_is c.requires.bounds

@@ -8,8 +8,8 @@ use Rattle.raptor_rounds.specs.States.{Settles}
 use Rattle.raptor_rounds.proofs.WalkLemmas.{settles_edges}
 use Rattle.raptor_rounds.proofs.walk.walk_from.Goals as goal
 
-pub returns : goal.returns
-returns g c =
+pub returns-clause-settles : goal.returns-clause-settles
+returns-clause-settles g c =
     let t = c.args.timetable.now in
     let runs = g.T.Timetable.runs t in
     let blocks = g.T.Timetable.blocks t in
@@ -22,4 +22,4 @@ returns g c =
     let look = c.in-Some.ensures.lookup in
     let is = subst (λ (rows : List (List Edge)). slice_get rows n.stop ≡ Some row) c.as_slice.ensures (slice_get_read from (length from) n.stop row refl look.3.0 look.1) in
     settles_edges blocks runs edges r i n row c.args.state.now c.walk_edges.new.state is
-    (subst (λ (xs : List Edge). Settles r n.departure (FromSome (WalksBy runs r i n) xs) (FromSome (IsWalkedBy blocks r i n) xs) c.args.state.now c.walk_edges.new.state) c.as_slice-2.ensures c.in_ok-walk_edges.ensures)
+    (subst (λ (xs : List Edge). Settles r n.departure (FromSome (WalksBy runs r i n) xs) (FromSome (IsWalkedBy blocks r i n) xs) c.args.state.now c.walk_edges.new.state) c.as_slice-2.ensures c.in_ok-walk_edges.ensures.settles)

@@ -33,7 +33,7 @@ invariant_of-self-2 g c =
     let published : c.publish.new.self ≡ with_commit own.writer commit = search rules in
     let messages = subst (λ (d : DeskView). commit.messages ≡ pending_in d.state.slots) (sym c.self.view_is) c.in_ok-commit.ensures.messages in
     let stands = subst (λ (d : DeskView). IsSnapshotOf next d.feed (d.state.history ++ commit ∷ [])) (sym c.self.view_is) c.in_ok-commit.ensures.stands in
-    still_desk (arc_value own.current.feed) own.writer c.publish.new.self own.current.buffer c.settle.new.self own.current.index (arc_value own.current.newest) next commit c.self.invariant published messages c.settle.ensures.committed stands
+    still_desk (arc_value own.current.feed) own.writer c.publish.new.self own.current.buffer c.settle.new.self own.current.index (arc_value own.current.newest) next commit c.self.invariant published messages c.settle.ensures.committed c.settle.ensures.resolved stands
     c.settle.ensures.settled some room
 
 pub returns-clause-ok : goal.returns-clause-ok

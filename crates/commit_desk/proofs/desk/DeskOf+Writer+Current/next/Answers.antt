@@ -11,19 +11,19 @@ pub returns-in_err-snapshot-clause-most : goal.returns-in_err-snapshot-clause-mo
 returns-in_err-snapshot-clause-most g c =
     let told = c.in_ok-commit.ensures in
     most_of _ _ _ _ _ _ _ _ _ _ _ _ _ c.self.invariant c.self.view_is (record { messages = told.messages; differ = told.changes; schedule = told.schedule })
-    (c.of-lookup.ensures ∙ c.deref.ensures) c.deref-2.ensures c.as_slice.ensures c.requires.pending c.requires.room c.with_changes.ensures.most
+    c.deref.ensures c.deref-2.ensures c.as_slice.ensures c.requires.pending c.requires.room c.with_changes.ensures.most
 
 pub returns-in_err-new-clause-most : goal.returns-in_err-new-clause-most
 returns-in_err-new-clause-most g c =
     let told = c.in_ok-commit.ensures in
     most_of _ _ _ _ _ _ _ _ _ _ _ _ _ c.self.invariant c.self.view_is (record { messages = told.messages; differ = told.changes; schedule = told.schedule })
-    (c.of-lookup.ensures ∙ c.deref.ensures) c.deref-2.ensures c.as_slice.ensures c.requires.pending c.requires.room c.with_changes.ensures.most
+    c.deref.ensures c.deref-2.ensures c.as_slice.ensures c.requires.pending c.requires.room c.with_changes.ensures.most
 
 pub returns-clause-most : goal.returns-clause-most
 returns-clause-most g c =
     let told = c.in_ok-commit.ensures in
     most_of _ _ _ _ _ _ _ _ _ _ _ _ _ c.self.invariant c.self.view_is (record { messages = told.messages; differ = told.changes; schedule = told.schedule })
-    (c.of-lookup.ensures ∙ c.deref.ensures) c.deref-2.ensures c.as_slice.ensures c.requires.pending c.requires.room c.with_changes.ensures.most
+    c.deref.ensures c.deref-2.ensures c.as_slice.ensures c.requires.pending c.requires.room c.with_changes.ensures.most
 
 pub returns-clause-messages : goal.returns-clause-messages
 returns-clause-messages g c = c.in_ok-commit.ensures.messages ∙ pending_is c.self.inside.current.buffer ∙ ap (λ (d : DeskView). pending_in d.state.slots) c.self.view_is
@@ -34,5 +34,5 @@ returns-clause-stands g c =
     let commit = c.in_ok-commit.field-0.commit in
     let desk = c.args.self.now in
     let stands = stands_of _ _ _ _ _ _ _ _ c.in_ok-snapshot.snapshot _ _ _ c.self.invariant c.self.view_is (record { messages = told.messages; differ = told.changes; schedule = told.schedule })
-    (c.of-lookup.ensures ∙ c.deref.ensures) c.deref-2.ensures c.as_slice.ensures c.in_ok-snapshot.ensures.stands in
+    c.deref.ensures c.deref-2.ensures c.as_slice.ensures c.in_ok-snapshot.ensures.stands in
     subst (λ (s : Snapshot). IsSnapshotOf s desk.feed (desk.state.history ++ commit ∷ [])) (sym c.in_ok-new.ensures.ok) stands

@@ -32,6 +32,7 @@ invariant_of-desk g c =
       indexed = subst (λ (f : Feed). IsIndexOf f c.in_ok-index.index) c.deref.ensures c.in_ok-index.ensures;
       feed_is = sym (opened.0 ∙ c.deref-3.ensures);
       committed = subst (λ (h : History). IsCommitted c.in_ok-buffer.buffer h) (sym opened.1) c.in_ok-buffer.ensures.committed;
+      resolved = c.in_ok-buffer.ensures.resolved (arc_value c.args.feed);
       stands = subst (λ (h : History). IsSnapshotOf (arc_value c.in_ok-newest.newest) (arc_value c.args.feed) h) (sym opened.1) stands;
       counted = subst (λ (h : History). IsCounted c.in_ok-buffer.buffer h) (sym opened.1)
           (subst (λ (states : List FeedState). IsCounted states []) (sym c.in_ok-buffer.ensures.fresh) (counted_fresh c.args.feeds));
