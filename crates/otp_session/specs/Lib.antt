@@ -1,0 +1,9 @@
+pub mod Changes
+pub mod Closing
+pub mod Connections
+pub mod Desks
+pub mod Grounds
+pub mod Openings
+pub mod Replied
+pub mod Sessions
+pub mod Steps
