@@ -1,10 +1,11 @@
 #!/usr/bin/env python3
-"""Writes a city as a GTFS folder and messages that delay some of its runs: city.py FOLDER [--side N] [--lines N] [--trips N] [--calls N].
+"""Writes a city as a GTFS folder, messages that delay some of its runs, and queries: city.py FOLDER [--side N] [--lines N] [--trips N] [--calls N] [--queries N].
 
 SIDE times SIDE stops, 300 m apart. Each of LINES lines goes back and forth along a bent way of CALLS stops, with TRIPS trips a
 direction over the day of 2024-05-06, each with dwells of its own. The messages of `few-1`, `few-2` .. delay one trip in a hundred,
 those of a few lines that follow each other; those of `all-1`, `all-2` .. as many, spread over all lines. Each is a full dataset
-with the same trips and other delays.
+with the same trips and other delays. `queries` has QUERIES lines (40), each the places and the time of a plan's query: from a stop
+to another, or from a point, between 06:00 and 19:00 of the day.
 """
 import argparse
 import os
@@ -18,6 +19,7 @@ words.add_argument("--side", type=int, default=140)
 words.add_argument("--lines", type=int, default=1000)
 words.add_argument("--trips", type=int, default=50)
 words.add_argument("--calls", type=int, default=30)
+words.add_argument("--queries", type=int, default=40)
 words = words.parse_args()
 draw = random.Random(20240506)
 
@@ -113,3 +115,19 @@ of_all = [trips[place * 100 + draw.randrange(100)] for place in range(late)]
 for n in range(1, MESSAGES + 1):
     write_message("few-%d" % n, of_few)
     write_message("all-%d" % n, of_all)
+
+
+def place():
+    """A stop, or in one case of four a point near one."""
+    stop = draw.randrange(words.side ** 2)
+    if draw.randrange(4):
+        return "stop:S%d" % stop
+    row, column = divmod(stop, words.side)
+    return "at:%.6f,%.6f" % (row * 0.0027 + 0.001, column * 0.0027 + 0.001)
+
+
+MIDNIGHT = 1714953600
+with table("queries", "") as file:
+    file.seek(0)
+    for _ in range(words.queries):
+        file.write("from=%s&to=%s&time=%d\n" % (place(), place(), MIDNIGHT + draw.randrange(6 * 3600, 19 * 3600)))
